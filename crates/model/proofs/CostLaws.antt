@@ -1,0 +1,123 @@
+-- Laws of the costs, for callers who need not open them: the nearest facility, sets that agree, metric service costs.
+use Prim.Native.Nat.{ℕ, _+_, _*_, _≤_, _<_}
+use native.Mathlib.Nat.{mul-le-mul-left}
+use native.Mathlib.Omega.{arith}
+use mathlib.Core.Path.{_≡_, refl, sym, ap, ap₂, _∙_}
+use mathlib.Core.Bool.{Bool, true, false}
+use borrow.Author.Tests.{leb-true, leb-false, le-leb, lt-leb}
+use Rattle.model.specs.Loops.{on, allBelow, sum}
+use Rattle.model.specs.Least.{any, least, arg}
+use Rattle.model.specs.Instance.{Instance, fourPoint, fourPointQ, fourPointPQ, fourPointBPQ, metric, nearest, assigned, openingCost, serviceCost, totalCost}
+use Rattle.model.proofs.LoopLaws.{all-at, all-from, all-fails, all-stops}
+use Rattle.model.proofs.SumLaws.{sum-mono, sum-cong}
+use Rattle.model.proofs.LeastLaws.{Least, any-of, arg-least, arg-cong, least-at, least-le, least-cong}
+
+-- what the four-point rule says of two facilities and two clients, and what breaks it
+pub record Breaks (I : Instance) : Type 0 where
+  pub a : ℕ
+  pub b : ℕ
+  pub p : ℕ
+  pub q : ℕ
+  pub a-below : a < I .facilities
+  pub b-below : b < I .facilities
+  pub p-below : p < I .clients
+  pub q-below : q < I .clients
+  pub shorter : I .service a p + I .service b p + I .service b q < I .service a q
+
+module _ (I : Instance) where
+  open Instance I using (facilities as m, clients as n, opening, service, weight)
+
+  -- ---- metric service costs
+
+  pub metric-rule : metric I ≡ true → (a b p q : ℕ) → a < m → b < m → p < n → q < n
+      → service a q ≤ service a p + service b p + service b q
+  unfolding metric fourPointBPQ fourPointPQ fourPointQ fourPoint
+  metric-rule h a b p q la lb lp lq =
+      let atA = all-at (fourPointBPQ I) m a h la in
+      let atB = all-at (fourPointPQ I a) m b atA lb in
+      let atP = all-at (fourPointQ I a b) n p atB lp in
+      leb-true (service a q) (service a p + service b p + service b q) (all-at (fourPoint I a b p) n q atP lq)
+
+  pub rule-metric : ((a b p q : ℕ) → a < m → b < m → p < n → q < n → service a q ≤ service a p + service b p + service b q)
+      → metric I ≡ true
+  unfolding metric fourPointBPQ fourPointPQ fourPointQ fourPoint
+  rule-metric h =
+      all-from (fourPointBPQ I) m (λ a la. all-from (fourPointPQ I a) m (λ b lb. all-from (fourPointQ I a b) n (λ p lp.
+      all-from (fourPoint I a b p) n (λ q lq. le-leb (service a q) (service a p + service b p + service b q) (h a b p q la lb lp lq)))))
+
+  -- service costs are not metric exactly where some two facilities and two clients break the rule
+  pub not-metric : metric I ≡ false → Breaks I
+  unfolding metric fourPointBPQ fourPointPQ fourPointQ fourPoint
+  not-metric h =
+      let atA = all-fails (fourPointBPQ I) m h in
+      let atB = all-fails (fourPointPQ I (atA .0)) m (atA .2) in
+      let atP = all-fails (fourPointQ I (atA .0) (atB .0)) n (atB .2) in
+      let atQ = all-fails (fourPoint I (atA .0) (atB .0) (atP .0)) n (atP .2) in
+      record {
+        a = atA .0;
+        b = atB .0;
+        p = atP .0;
+        q = atQ .0;
+        a-below = atA .1;
+        b-below = atB .1;
+        p-below = atP .1;
+        q-below = atQ .1;
+        shorter = leb-false _ _ (atQ .2);
+      }
+
+  pub broken : Breaks I → metric I ≡ false
+  unfolding metric fourPointBPQ fourPointPQ fourPointQ fourPoint
+  broken w =
+      all-stops (fourPointBPQ I) m (w .a) (w .a-below) (all-stops (fourPointPQ I (w .a)) m (w .b) (w .b-below)
+      (all-stops (fourPointQ I (w .a) (w .b)) n (w .p) (w .p-below) (all-stops (fourPoint I (w .a) (w .b) (w .p)) n (w .q) (w .q-below)
+      (lt-leb _ _ (w .shorter)))))
+
+  -- ---- the nearest facility
+
+  -- no facility of S is nearer
+  pub nearest-le : (S : ℕ → Bool) (i j : ℕ) → i < m → S i ≡ true → nearest I S j ≤ service i j
+  unfolding nearest
+  nearest-le S i j l e = least-le m i S (λ i. service i j) l e
+
+  -- the assigned facility is of S, its cost is the nearest, and those before it cost more
+  pub assigned-least : (S : ℕ → Bool) (j : ℕ) → any m S ≡ true → Least m S (λ i. service i j) (assigned I S j)
+  unfolding assigned
+  assigned-least S j e = arg-least m S (λ i. service i j) e
+
+  pub assigned-nearest : (S : ℕ → Bool) (j : ℕ) → any m S ≡ true → service (assigned I S j) j ≡ nearest I S j
+  unfolding nearest assigned
+  assigned-nearest S j e = sym (least-at m S (λ i. service i j) e)
+
+  -- ---- any assignment of clients to facilities of S costs at least as much as the nearest
+
+  pub served-by : (S : ℕ → Bool) (r : ℕ → ℕ) → ((j : ℕ) → j < n → r j < m) → ((j : ℕ) → j < n → S (r j) ≡ true)
+      → serviceCost I S ≤ sum n (λ j. weight j * service (r j) j)
+  unfolding serviceCost
+  served-by S r below in-S = sum-mono n (λ j l. mul-le-mul-left (weight j) (nearest-le S (r j) j (below j l) (in-S j l)))
+
+  pub served-nearest : (S : ℕ → Bool) → any m S ≡ true → serviceCost I S ≡ sum n (λ j. weight j * service (assigned I S j) j)
+  unfolding serviceCost
+  served-nearest S e = sum-cong n (λ j l. ap (λ x. weight j * x) (sym (assigned-nearest S j e)))
+
+  -- ---- sets that agree on the facilities cost the same
+
+  module _ (S T : ℕ → Bool) (agree : (i : ℕ) → i < m → S i ≡ T i) where
+    pub nearest-cong : (j : ℕ) → nearest I S j ≡ nearest I T j
+    unfolding nearest
+    nearest-cong j = least-cong m S T (λ i. service i j) agree
+
+    pub assigned-cong : (j : ℕ) → assigned I S j ≡ assigned I T j
+    unfolding assigned
+    assigned-cong j = arg-cong m S T (λ i. service i j) agree
+
+    pub opening-cong : openingCost I S ≡ openingCost I T
+    unfolding openingCost
+    opening-cong = sum-cong m (λ i l. ap (λ b. on b (opening i)) (agree i l))
+
+    pub service-cong : serviceCost I S ≡ serviceCost I T
+    unfolding serviceCost
+    service-cong = sum-cong n (λ j l. ap (λ x. weight j * x) (nearest-cong j))
+
+    pub total-cong : totalCost I S ≡ totalCost I T
+    unfolding totalCost
+    total-cong = ap₂ _+_ opening-cong service-cong

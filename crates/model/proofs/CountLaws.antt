@@ -1,0 +1,103 @@
+-- Laws of counts, and of the first members of a set.
+use Prim.Native.Nat.{ℕ, zero, suc, _+_, _≤_, _<_, min}
+use native.Mathlib.Nat.{le-step, lt-suc-self, not-suc-le-zero}
+use native.Mathlib.Omega.{arith}
+use mathlib.Core.Path.{_≡_, refl, sym, ap, _∙_}
+use mathlib.Core.Bool.{Bool, true, false, not, _&&_, _||_}
+use borrow.Author.Tests.{eqb-true, ltb-true, ltb-false, ne-eqb}
+use lib.Dec.{eqb, ltb}
+use Rattle.model.specs.Loops.{on, sum}
+use Rattle.model.specs.Sets.{count, plus, minus}
+use Rattle.model.proofs.Bools.{cases, clash, and-left, Eq?, same, diff, test}
+use Rattle.model.proofs.SumLaws.{sum-mono, sum-cong, sum-add, sum-term, sum-one, on-or-ge, on-split}
+
+-- nothing is summed over a set without members
+pub count-zero : (m : ℕ) (S : ℕ → Bool) (w : ℕ → ℕ) → count m S ≡ 0 → sum m (λ i. on (S i) (w i)) ≡ 0
+unfolding sum
+count-zero zero S w h = refl
+count-zero (suc m) S w h =
+    cases (S m)
+    (λ e. let h2 = rw e at h in absurd (omega arith))
+    (λ e. let h2 = rw e at h in rw e (let ih = count-zero m S w (omega arith) in omega arith))
+
+-- a set that is counted has a member
+pub count-find : (m : ℕ) (S : ℕ → Bool) → 1 ≤ count m S → (i : ℕ) × (i < m) × (S i ≡ true)
+unfolding sum
+count-find zero S h = absurd (not-suc-le-zero h)
+count-find (suc m) S h =
+    cases (S m)
+    (λ e. (m, lt-suc-self m, e))
+    (λ e. let h2 = rw e at h in let r = count-find m S (omega arith) in (r .0, le-step (r .1), r .2))
+
+-- and a set with a member is counted
+pub count-some : (m i : ℕ) (S : ℕ → Bool) → i < m → S i ≡ true → 1 ≤ count m S
+count-some m i S h e = let t = sum-term m (λ k. on (S k) 1) i h in rw e at t
+
+pub count-cong : (m : ℕ) (S T : ℕ → Bool) → ((i : ℕ) → i < m → S i ≡ T i) → count m S ≡ count m T
+count-cong m S T h = sum-cong m (λ i l. ap (λ (b : Bool). on b 1) (h i l))
+
+-- ---- one member more, one less
+
+pub count-plus : (m o : ℕ) (S : ℕ → Bool) → o < m → S o ≡ false → count m (plus S o) ≡ suc (count m S)
+count-plus m o S l e =
+    sum-cong m (λ i k. at i (eqb o i) (test o i)) ∙ sum-add m (λ i. on (eqb o i) 1) (λ i. on (S i) 1)
+    ∙ (let p = sum-one m o (λ i. 1) l in omega arith)
+  where
+    at : (i : ℕ) (b : Bool) → Eq? o i b → on (b || S i) 1 ≡ on b 1 + on (S i) 1
+    at i true (same q) = rw (sym (ap S q) ∙ e)
+    at i false (diff q) = omega arith
+
+-- what a set sums to without one of its members
+pub sum-minus : (m f : ℕ) (S : ℕ → Bool) (w : ℕ → ℕ) → f < m → S f ≡ true
+    → sum m (λ i. on (minus S f i) (w i)) + w f ≡ sum m (λ i. on (S i) (w i))
+sum-minus m f S w l e =
+    ap (λ x. sum m (λ i. on (minus S f i) (w i)) + x) (sym (sum-one m f w l))
+    ∙ (sym (sum-add m (λ i. on (minus S f i) (w i)) (λ i. on (eqb f i) (w i)))
+    ∙ sum-cong m (λ i h. at i (eqb f i) (test f i)))
+  where
+    at : (i : ℕ) (b : Bool) → Eq? f i b → on (not b && S i) (w i) + on b (w i) ≡ on (S i) (w i)
+    at i true (same q) = rw (sym (ap S q) ∙ e) (omega arith)
+    at i false (diff q) = omega arith
+
+pub count-minus : (m f : ℕ) (S : ℕ → Bool) → f < m → S f ≡ true → suc (count m (minus S f)) ≡ count m S
+count-minus m f S l e = let h = sum-minus m f S (λ i. 1) l e in omega arith
+
+-- two members are two
+pub count-two : (m f g : ℕ) (S : ℕ → Bool) → f < m → g < m → S f ≡ true → S g ≡ true → ¬ (f ≡ g) → 2 ≤ count m S
+count-two m f g S lf lg ef eg d =
+    let one = count-some m g (minus S f) lg (rw (ne-eqb f g d, eg)) in
+    omega (arith, count-minus m f S lf ef)
+
+-- ---- the first t members of S, and the others
+
+unfoldable pub first : ℕ → (ℕ → Bool) → ℕ → Bool
+first t S i = S i && ltb (count i S) t
+
+unfoldable pub rest : ℕ → (ℕ → Bool) → ℕ → Bool
+rest t S i = S i && not (ltb (count i S) t)
+
+pub count-first : (m t : ℕ) (S : ℕ → Bool) → count m (first t S) ≡ min t (count m S)
+unfolding sum first
+count-first zero t S = omega arith
+count-first (suc m) t S =
+    let ih = count-first m t S in
+    cases (S m)
+    (λ e. cases (ltb (count m S) t)
+    (λ k. let k2 = ltb-true (count m S) t k in rw (e, k) (omega arith))
+    (λ k. let k2 = ltb-false (count m S) t k in rw (e, k) (omega arith)))
+    (λ e. rw e (omega arith))
+
+pub first-in : (t : ℕ) (S : ℕ → Bool) (i : ℕ) → first t S i ≡ true → S i ≡ true
+unfolding first
+first-in t S i h = and-left (S i) (ltb (count i S) t) h
+
+pub rest-in : (t : ℕ) (S : ℕ → Bool) (i : ℕ) → rest t S i ≡ true → S i ≡ true
+unfolding rest
+rest-in t S i h = and-left (S i) (not (ltb (count i S) t)) h
+
+pub sum-split : (m t : ℕ) (S : ℕ → Bool) (w : ℕ → ℕ)
+    → sum m (λ i. on (S i) (w i)) ≡ sum m (λ i. on (first t S i) (w i)) + sum m (λ i. on (rest t S i) (w i))
+unfolding first rest
+sum-split m t S w =
+    sum-cong m (λ i h. sym (on-split (S i) (ltb (count i S) t) (w i)))
+    ∙ sum-add m (λ i. on (first t S i) (w i)) (λ i. on (rest t S i) (w i))

@@ -1,0 +1,110 @@
+-- Laws of what loops compute: before the first turn, what a turn adds, and what a loop that leaves early has found.
+-- Loops count by i + 1, so the laws for turns do too.
+use Prim.Native.Nat.{ℕ, zero, suc, _+_, _≤_, _<_}
+use native.Mathlib.Nat.{le-step, lt-suc-self, not-suc-le-zero, eq-or-lt-of-le, le-of-suc-le-suc}
+use native.Mathlib.Numerals.{add-one}
+use native.Mathlib.Omega.{arith}
+use native.Mathlib.Decide.{decLt}
+use mathlib.Core.Path.{_≡_, refl, ap, subst, _∙_}
+use mathlib.Core.Logic.{_⊎_, inl, inr}
+use mathlib.Core.Bool.{Bool, true, false, cond, _&&_, and-false, true≢false}
+use mathlib.Core.List.{List, [], _++_}
+use borrow.Author.Tests.{eq-eqb, ne-eqb}
+use lib.Dec.{eqb}
+use Rattle.model.specs.Loops.{allBelow, leading, fold, join}
+use Rattle.model.proofs.Bools.{cases, clash, and-left, and-right, cond-le}
+
+-- a number below m + 1 is m or below m
+pub last-or : {i m : ℕ} → i < suc m → (i ≡ m) ⊎ (i < m)
+last-or h = eq-or-lt-of-le (le-of-suc-le-suc h)
+
+-- what holds below i and of i holds below i + 1
+pub up-to : (Q : ℕ → Type 0) (i : ℕ) → ((k : ℕ) → k < i → Q k) → Q i → (k : ℕ) → k < suc i → Q k
+up-to Q i h q k l = elim (eq-or-lt-of-le l) [ inl e ↦ subst Q (omega arith) q | inr s ↦ h k (omega arith) ]
+
+-- ---- all below
+
+pub all-none : (p : ℕ → Bool) → true ≡ allBelow 0 p
+unfolding allBelow
+all-none p = refl
+
+pub all-more : (p : ℕ → Bool) (i : ℕ) → true ≡ allBelow i p → p i ≡ true → true ≡ allBelow (i + 1) p
+unfolding allBelow
+all-more p i h e = rw (add-one, ← h, e)
+
+pub all-stops : (p : ℕ → Bool) (n i : ℕ) → i < n → p i ≡ false → allBelow n p ≡ false
+unfolding allBelow
+all-stops p zero i h e = absurd (not-suc-le-zero h)
+all-stops p (suc n) i h e =
+    elim (decLt i n) [
+      | yes l ↦ ap (λ (b : Bool). b && p n) (all-stops p n i l e)
+      | no g ↦ ap (λ (k : ℕ). allBelow n p && p k) (omega arith) ∙ ap (λ (b : Bool). allBelow n p && b) e ∙ and-false (allBelow n p)
+    ]
+
+-- the readable form: p holds of each index
+pub all-at : (p : ℕ → Bool) (n i : ℕ) → allBelow n p ≡ true → i < n → p i ≡ true
+all-at p n i h l = cases (p i) (λ e. e) (λ e. clash h (all-stops p n i l e))
+
+pub all-from : (p : ℕ → Bool) (n : ℕ) → ((i : ℕ) → i < n → p i ≡ true) → allBelow n p ≡ true
+unfolding allBelow
+all-from p zero h = refl
+all-from p (suc n) h = rw (all-from p n (λ i l. h i (le-step l)), h n (lt-suc-self n))
+
+-- where not all pass, some index fails
+pub all-fails : (p : ℕ → Bool) (n : ℕ) → allBelow n p ≡ false → (i : ℕ) × (i < n) × (p i ≡ false)
+unfolding allBelow
+all-fails p zero h = absurd (true≢false h)
+all-fails p (suc n) h =
+    cases (allBelow n p)
+    (λ e. (n, lt-suc-self n, rw e at h))
+    (λ e. let r = all-fails p n e in (r .0, le-step (r .1), r .2))
+
+-- ---- the leading run
+
+pub leading-none : (p : ℕ → Bool) → leading 0 p ≡ 0
+unfolding leading
+leading-none p = refl
+
+pub leading-more : (p : ℕ → Bool) (i : ℕ) → leading i p ≡ i → p i ≡ true → leading (i + 1) p ≡ i + 1
+unfolding leading
+leading-more p i h e = rw add-one (ap (λ (b : Bool). cond b (cond (p i) (suc i) i) (leading i p)) (eq-eqb _ _ h) ∙ ap (λ (b : Bool). cond b (suc i) i) e)
+
+pub leading-stops : (p : ℕ → Bool) (n i : ℕ) → leading i p ≡ i → i < n → p i ≡ false → leading n p ≡ i
+unfolding leading
+leading-stops p zero i h l e = absurd (not-suc-le-zero l)
+leading-stops p (suc n) i h l e =
+    elim (decLt i n) [
+      | yes b ↦
+          let before : leading n p ≡ i = leading-stops p n i h b e in
+          ap (λ (t : Bool). cond t (cond (p n) (suc n) n) (leading n p)) (ne-eqb (leading n p) n (λ q. omega arith)) ∙ before
+      | no g ↦
+          let same : i ≡ n = omega arith in
+          subst (λ (k : ℕ). cond (eqb (leading k p) k) (cond (p k) (suc k) k) (leading k p) ≡ i) same
+          (ap (λ (t : Bool). cond t (cond (p i) (suc i) i) (leading i p)) (eq-eqb _ _ h) ∙ ap (λ (t : Bool). cond t (suc i) i) e)
+    ]
+
+pub leading-le : (p : ℕ → Bool) (n : ℕ) → leading n p ≤ n
+unfolding leading
+leading-le p zero = omega arith
+leading-le p (suc n) =
+    cond-le (eqb (leading n p) n) (cond-le (p n) (omega arith) (omega arith)) (omega (arith, leading-le p n))
+
+-- ---- fold
+
+pub fold-none : {A : Type 0} (f : ℕ → A → A) (b : A) → b ≡ fold 0 f b
+unfolding fold
+fold-none f b = refl
+
+pub fold-more : {A : Type 0} (f : ℕ → A → A) (b : A) (i : ℕ) → fold (i + 1) f b ≡ f i (fold i f b)
+unfolding fold
+fold-more f b i = rw add-one
+
+-- ---- join
+
+pub join-none : (f : ℕ → List ℕ) → join 0 f ≡ []
+unfolding join
+join-none f = refl
+
+pub join-more : (f : ℕ → List ℕ) (i : ℕ) → join (i + 1) f ≡ join i f ++ f i
+unfolding join
+join-more f i = rw add-one

@@ -1,0 +1,154 @@
+-- Laws of finite sums.
+use Prim.Native.Nat.{ℕ, zero, suc, _+_, _*_, _≤_, _<_, zero-le}
+use native.Mathlib.Nat.{le-refl, le-suc, le-trans, le-step, lt-suc-self, add-le-add, not-suc-le-zero, eq-or-lt-of-le}
+use native.Mathlib.Numerals.{add-one}
+use native.Mathlib.Omega.{arith}
+use mathlib.Core.Path.{_≡_, refl, sym, ap, ap₂, _∙_}
+use mathlib.Core.Logic.{_⊎_, inl, inr}
+use mathlib.Core.Bool.{Bool, true, false, not, _&&_, _||_}
+use lib.Dec.{eqb}
+use Rattle.model.specs.Loops.{on, sum}
+use Rattle.model.proofs.Bools.{Eq?, same, diff, test, clash}
+use Rattle.model.proofs.LoopLaws.{last-or}
+
+-- ---- for loops in code
+
+pub sum-none : (f : ℕ → ℕ) → 0 ≡ sum 0 f
+unfolding sum
+sum-none f = refl
+
+pub sum-more : (f : ℕ → ℕ) (i : ℕ) → sum (i + 1) f ≡ sum i f + f i
+unfolding sum
+sum-more f i = rw add-one
+
+-- a sum so far is at most the whole
+pub sum-prefix : (i n : ℕ) (f : ℕ → ℕ) → i ≤ n → sum i f ≤ sum n f
+unfolding sum
+sum-prefix i zero f h = let e : i ≡ 0 = omega arith in rw e (le-refl 0)
+sum-prefix i (suc n) f h = elim (eq-or-lt-of-le h) [ inl e ↦ rw e (le-refl (sum n f + f n)) | inr l ↦ omega (arith, sum-prefix i n f (omega arith)) ]
+
+-- n terms of at most b
+pub sum-bound : (n b : ℕ) (f : ℕ → ℕ) → ((i : ℕ) → i < n → f i ≤ b) → sum n f ≤ n * b
+unfolding sum
+sum-bound zero b f h = zero-le
+sum-bound (suc n) b f h = omega (arith, sum-bound n b f (λ i l. h i (le-step l)), h n (lt-suc-self n))
+
+-- ---- term by term
+
+pub sum-mono : (n : ℕ) {f g : ℕ → ℕ} → ((i : ℕ) → i < n → f i ≤ g i) → sum n f ≤ sum n g
+unfolding sum
+sum-mono zero h = zero-le
+sum-mono (suc n) h = add-le-add (sum-mono n (λ i l. h i (le-step l))) (h n (lt-suc-self n))
+
+pub sum-cong : (n : ℕ) {f g : ℕ → ℕ} → ((i : ℕ) → i < n → f i ≡ g i) → sum n f ≡ sum n g
+unfolding sum
+sum-cong zero h = refl
+sum-cong (suc n) h = ap₂ _+_ (sum-cong n (λ i l. h i (le-step l))) (h n (lt-suc-self n))
+
+pub sum-add : (n : ℕ) (f g : ℕ → ℕ) → sum n (λ i. f i + g i) ≡ sum n f + sum n g
+unfolding sum
+sum-add zero f g = refl
+sum-add (suc n) f g = omega (arith, sum-add n f g)
+
+pub sum-mul : (n k : ℕ) (f : ℕ → ℕ) → sum n (λ i. k * f i) ≡ k * sum n f
+unfolding sum
+sum-mul zero k f = omega arith
+sum-mul (suc n) k f = omega (arith, sum-mul n k f)
+
+pub sum-zero : (n : ℕ) → sum n (λ i. 0) ≡ 0
+unfolding sum
+sum-zero zero = refl
+sum-zero (suc n) = omega (arith, sum-zero n)
+
+-- a term is at most the sum
+pub sum-term : (n : ℕ) (f : ℕ → ℕ) (i : ℕ) → i < n → f i ≤ sum n f
+unfolding sum
+sum-term zero f i h = absurd (not-suc-le-zero h)
+sum-term (suc n) f i h = go (last-or h) (sum-term n f i)
+  where
+    go : (i ≡ n) ⊎ (i < n) → (i < n → f i ≤ sum n f) → f i ≤ sum n f + f n
+    go (inl e) ih = rw e (omega arith)
+    go (inr k) ih = let r = ih k in omega arith
+
+-- the order of two sums may be changed
+pub sum-swap : (n m : ℕ) (f : ℕ → ℕ → ℕ) → sum n (λ i. sum m (λ k. f i k)) ≡ sum m (λ k. sum n (λ i. f i k))
+unfolding sum
+sum-swap zero m f = sym (sum-zero m)
+sum-swap (suc n) m f = let ih = sum-swap n m f in omega (arith, sum-add m (λ k. sum n (λ i. f i k)) (f n))
+
+-- ---- one term
+
+-- beyond the sum's range nothing equals k
+sum-one-out : (n k : ℕ) (f : ℕ → ℕ) → n ≤ k → sum n (λ i. on (eqb k i) (f i)) ≡ 0
+unfolding sum
+sum-one-out zero k f h = refl
+sum-one-out (suc n) k f h = go (eqb k n) (test k n) (sum-one-out n k f (le-trans (le-suc n) h))
+  where
+    go : (b : Bool) → Eq? k n b → sum n (λ i. on (eqb k i) (f i)) ≡ 0 → sum n (λ i. on (eqb k i) (f i)) + on b (f n) ≡ 0
+    go true (same e) ih = absurd (omega arith)
+    go false (diff e) ih = omega arith
+
+-- of a sum over one number that term is left
+pub sum-one : (n k : ℕ) (f : ℕ → ℕ) → k < n → sum n (λ i. on (eqb k i) (f i)) ≡ f k
+unfolding sum
+sum-one zero k f h = absurd (not-suc-le-zero h)
+sum-one (suc n) k f h = go (eqb k n) (test k n) (sum-one n k f)
+  where
+    S : ℕ
+    S = sum n (λ i. on (eqb k i) (f i))
+
+    go : (b : Bool) → Eq? k n b → (k < n → S ≡ f k) → S + on b (f n) ≡ f k
+    go true (same e) ih = omega (arith, sum-one-out n k f (omega arith), ap f e)
+    go false (diff e) ih = omega (arith, ih (omega arith))
+
+-- ---- terms behind a test
+
+pub on-zero : (b : Bool) → on b 0 ≡ 0
+on-zero true = refl
+on-zero false = refl
+
+pub on-true : {b : Bool} (x : ℕ) → b ≡ true → on b x ≡ x
+on-true x e = rw e
+
+pub on-le : (b : Bool) (x : ℕ) → on b x ≤ x
+on-le true x = le-refl x
+on-le false x = zero-le
+
+pub on-swap : (a b : Bool) (x : ℕ) → on a (on b x) ≡ on b (on a x)
+on-swap true b x = refl
+on-swap false b x = sym (on-zero b)
+
+pub on-and : (a b : Bool) (x : ℕ) → on (a && b) x ≡ on a (on b x)
+on-and true b x = refl
+on-and false b x = refl
+
+pub on-and-le : (a b : Bool) (x : ℕ) → on (a && b) x ≤ on a x
+on-and-le true b x = on-le b x
+on-and-le false b x = zero-le
+
+pub on-or-le : (a b : Bool) (x : ℕ) → on (a || b) x ≤ on a x + on b x
+on-or-le true b x = omega arith
+on-or-le false b x = omega arith
+
+pub on-or-ge : (a b : Bool) (x : ℕ) → (a ≡ true → b ≡ false) → on a x + on b x ≤ on (a || b) x
+on-or-ge true true x h = clash refl (h refl)
+on-or-ge true false x h = omega arith
+on-or-ge false b x h = omega arith
+
+-- what a second test keeps and what it leaves
+pub on-split : (a b : Bool) (x : ℕ) → on (a && b) x + on (a && not b) x ≡ on a x
+on-split true true x = omega arith
+on-split true false x = omega arith
+on-split false b x = refl
+
+pub on-sum : (n : ℕ) (b : Bool) (f : ℕ → ℕ) → on b (sum n f) ≡ sum n (λ i. on b (f i))
+on-sum n true f = refl
+on-sum n false f = sym (sum-zero n)
+
+-- Double counting: each j below n stands at s j below m. The sum over the o in H of what stands at o is the sum over the j that stand in H.
+pub gather : (m n : ℕ) (H : ℕ → Bool) (s x : ℕ → ℕ) → ((j : ℕ) → j < n → s j < m)
+    → sum m (λ o. on (H o) (sum n (λ j. on (eqb (s j) o) (x j)))) ≡ sum n (λ j. on (H (s j)) (x j))
+gather m n H s x h =
+    sum-cong m (λ o l. on-sum n (H o) (λ j. on (eqb (s j) o) (x j)))
+    ∙ (sum-swap m n (λ o j. on (H o) (on (eqb (s j) o) (x j)))
+    ∙ sum-cong n (λ j l. sum-cong m (λ o k. on-swap (H o) (eqb (s j) o) (x j)) ∙ sum-one m (s j) (λ o. on (H o) (x j)) (h j l)))

@@ -1,0 +1,8 @@
+-- Loops: what loops compute. Least: least members. Sets: sets of numbers. Instance: the problem and its costs.
+-- Neighbours: the moves of a search. Search: the search itself.
+pub mod Loops
+pub mod Least
+pub mod Sets
+pub mod Instance
+pub mod Neighbours
+pub mod Search
