@@ -8,7 +8,7 @@ use Rattle.model.specs.Loops.{on, sum}
 abbrev pub count : ℕ → (ℕ → Bool) → ℕ
 count m S = sum m (λ i. on (S i) 1)
 
--- S with o; S without f; S with o in the place of f; S with all of Y in the place of all of X
+-- S with o; S without f; S with o in the place of f
 abbrev pub plus : (ℕ → Bool) → ℕ → ℕ → Bool
 plus S o i = eqb o i || S i
 
@@ -17,9 +17,6 @@ minus S f i = not (eqb f i) && S i
 
 abbrev pub trade : (ℕ → Bool) → ℕ → ℕ → ℕ → Bool
 trade S f o = plus (minus S f) o
-
-abbrev pub exchange : (ℕ → Bool) → (ℕ → Bool) → (ℕ → Bool) → ℕ → Bool
-exchange S X Y i = (S i && not (X i)) || Y i
 
 -- bit i of a set that is a number: `member set` is the set as a test
 unfoldable pub member : ℕ → ℕ → Bool
