@@ -1,1 +1,9 @@
-
+pub mod Maps
+pub mod Routing
+pub mod OpenBound
+pub mod Groups
+pub mod Exchange
+pub mod Theorems
+pub mod Lists
+pub mod Example
+pub mod Searches

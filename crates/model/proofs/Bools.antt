@@ -1,7 +1,7 @@
 -- Tests: two cases on a test with its equation, what && || not say, and the tests of numbers with their meaning.
 use Prim.Native.Nat.{ℕ, _≤_, _<_}
 use mathlib.Core.Path.{_≡_, refl, sym, _∙_}
-use mathlib.Core.Bool.{Bool, true, false, cond, not, _&&_, _||_, true≢false, false≢true}
+use mathlib.Core.Bool.{Bool, true, false, cond, _&&_, _||_, true≢false, false≢true}
 use borrow.Author.Tests.{eq-eqb, eqb-true, eqb-false, ltb-true, ltb-false}
 use lib.Dec.{eqb, ltb}
 
@@ -17,10 +17,6 @@ clash h k = absurd (true≢false (sym h ∙ k))
 -- a test that cannot hold fails
 pub fails : {b : Bool} → (b ≡ true → ⊥) → b ≡ false
 fails {b} f = cases b (λ e. absurd (f e)) (λ e. e)
-
--- a test that cannot fail holds
-pub holds : {b : Bool} → (b ≡ false → ⊥) → b ≡ true
-holds {b} f = cases b (λ e. e) (λ e. absurd (f e))
 
 pub and-left : (a b : Bool) → a && b ≡ true → a ≡ true
 and-left true b h = refl

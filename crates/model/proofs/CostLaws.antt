@@ -1,16 +1,15 @@
 -- Laws of the costs, for callers who need not open them: the nearest facility, sets that agree, metric service costs.
 use Prim.Native.Nat.{ℕ, _+_, _*_, _≤_, _<_}
 use native.Mathlib.Nat.{mul-le-mul-left}
-use native.Mathlib.Omega.{arith}
-use mathlib.Core.Path.{_≡_, refl, sym, ap, ap₂, _∙_}
+use mathlib.Core.Path.{_≡_, sym, ap, ap₂}
 use mathlib.Core.Bool.{Bool, true, false}
 use borrow.Author.Tests.{leb-true, leb-false, le-leb, lt-leb}
-use Rattle.model.specs.Loops.{on, allBelow, sum}
-use Rattle.model.specs.Least.{any, least, arg}
+use Rattle.model.specs.Loops.{on, sum}
+use Rattle.model.specs.Least.{any}
 use Rattle.model.specs.Instance.{Instance, fourPoint, fourPointQ, fourPointPQ, fourPointBPQ, metric, nearest, assigned, openingCost, serviceCost, totalCost}
 use Rattle.model.proofs.LoopLaws.{all-at, all-from, all-fails, all-stops}
 use Rattle.model.proofs.SumLaws.{sum-mono, sum-cong}
-use Rattle.model.proofs.LeastLaws.{Least, any-of, arg-least, arg-cong, least-at, least-le, least-cong}
+use Rattle.model.proofs.LeastLaws.{Least, arg-least, arg-cong, least-at, least-le, least-cong}
 
 -- what the four-point rule says of two facilities and two clients, and what breaks it
 pub record Breaks (I : Instance) : Type 0 where

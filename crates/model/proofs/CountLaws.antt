@@ -1,15 +1,15 @@
--- Laws of counts, and of the first members of a set.
-use Prim.Native.Nat.{ℕ, zero, suc, _+_, _≤_, _<_, min}
+-- Laws of counts and of sums over a set, of a set with a member more or less, and of the first members of a set.
+use Prim.Native.Nat.{ℕ, zero, suc, _+_, _*_, _≤_, _<_, min, zero-le}
 use native.Mathlib.Nat.{le-step, lt-suc-self, not-suc-le-zero}
 use native.Mathlib.Omega.{arith}
 use mathlib.Core.Path.{_≡_, refl, sym, ap, _∙_}
 use mathlib.Core.Bool.{Bool, true, false, not, _&&_, _||_}
-use borrow.Author.Tests.{eqb-true, ltb-true, ltb-false, ne-eqb}
+use borrow.Author.Tests.{ltb-true, ltb-false, ne-eqb}
 use lib.Dec.{eqb, ltb}
 use Rattle.model.specs.Loops.{on, sum}
-use Rattle.model.specs.Sets.{count, plus, minus}
-use Rattle.model.proofs.Bools.{cases, clash, and-left, Eq?, same, diff, test}
-use Rattle.model.proofs.SumLaws.{sum-mono, sum-cong, sum-add, sum-term, sum-one, on-or-ge, on-split}
+use Rattle.model.specs.Sets.{sumOn, count, plus, minus}
+use Rattle.model.proofs.Bools.{cases, and-left, Eq?, same, diff, test, Lt?, less, more, test<}
+use Rattle.model.proofs.SumLaws.{sum-mono, sum-cong, sum-add, sum-term, sum-one, on-or-le, on-split}
 
 -- nothing is summed over a set without members
 pub count-zero : (m : ℕ) (S : ℕ → Bool) (w : ℕ → ℕ) → count m S ≡ 0 → sum m (λ i. on (S i) (w i)) ≡ 0
@@ -36,6 +36,39 @@ count-some m i S h e = let t = sum-term m (λ k. on (S k) 1) i h in rw e at t
 pub count-cong : (m : ℕ) (S T : ℕ → Bool) → ((i : ℕ) → i < m → S i ≡ T i) → count m S ≡ count m T
 count-cong m S T h = sum-cong m (λ i l. ap (λ (b : Bool). on b 1) (h i l))
 
+-- how many of the numbers below m are below k
+pub count-under : (m k : ℕ) → count m (λ i. ltb i k) ≡ min m k
+unfolding sum
+count-under zero k = omega arith
+count-under (suc m) k = go (ltb m k) (test< m k) (count-under m k)
+  where
+    go : (b : Bool) → Lt? m k b → count m (λ i. ltb i k) ≡ min m k → count m (λ i. ltb i k) + on b 1 ≡ min (suc m) k
+    go true (less l) ih = omega arith
+    go false (more l) ih = omega arith
+
+-- ---- sums over a set beside its count
+
+-- if each member of S gains at most d, S gains at most count S times d
+pub sum-shift : (m d : ℕ) (S : ℕ → Bool) (a b : ℕ → ℕ) → ((i : ℕ) → i < m → S i ≡ true → a i ≤ b i + d)
+    → sumOn m S a ≤ sumOn m S b + count m S * d
+unfolding sum
+sum-shift zero d S a b h = zero-le
+sum-shift (suc m) d S a b h =
+    let ih = sum-shift m d S a b (λ i k. h i (le-step k)) in
+    cases (S m)
+    (λ e. let k = h m (lt-suc-self m) e in rw e (omega arith))
+    (λ e. rw e (omega arith))
+
+-- count S times a lower bound of c on S is at most the sum
+pub sum-above : (m d : ℕ) (S : ℕ → Bool) (c : ℕ → ℕ) → ((i : ℕ) → i < m → S i ≡ true → d ≤ c i) → count m S * d ≤ sumOn m S c
+unfolding sum
+sum-above zero d S c h = omega arith
+sum-above (suc m) d S c h =
+    let ih = sum-above m d S c (λ i k. h i (le-step k)) in
+    cases (S m)
+    (λ e. let k = h m (lt-suc-self m) e in rw e (omega arith))
+    (λ e. rw e (omega arith))
+
 -- ---- one member more, one less
 
 pub count-plus : (m o : ℕ) (S : ℕ → Bool) → o < m → S o ≡ false → count m (plus S o) ≡ suc (count m S)
@@ -46,6 +79,16 @@ count-plus m o S l e =
     at : (i : ℕ) (b : Bool) → Eq? o i b → on (b || S i) 1 ≡ on b 1 + on (S i) 1
     at i true (same q) = rw (sym (ap S q) ∙ e)
     at i false (diff q) = omega arith
+
+-- the sum over a set with one more member
+pub sum-plus-le : (m o : ℕ) (S : ℕ → Bool) (w : ℕ → ℕ) → o < m → sumOn m (plus S o) w ≤ sumOn m S w + w o
+sum-plus-le m o S w l =
+    omega (
+      arith,
+      sum-mono m (λ i k. on-or-le (eqb o i) (S i) (w i)),
+      sum-add m (λ i. on (eqb o i) (w i)) (λ i. on (S i) (w i)),
+      sum-one m o w l,
+    )
 
 -- what a set sums to without one of its members
 pub sum-minus : (m f : ℕ) (S : ℕ → Bool) (w : ℕ → ℕ) → f < m → S f ≡ true

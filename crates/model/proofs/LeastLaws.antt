@@ -2,13 +2,13 @@
 use Prim.Native.Nat.{ℕ, zero, suc, _≤_, _<_, min}
 use native.Mathlib.Nat.{le-refl, le-step, lt-suc-self, not-suc-le-zero}
 use native.Mathlib.Omega.{arith}
-use mathlib.Core.Path.{_≡_, refl, sym, ap, ap₂, _∙_}
+use mathlib.Core.Path.{_≡_, refl, sym, ap₂}
 use mathlib.Core.Logic.{_⊎_, inl, inr}
 use mathlib.Core.Bool.{Bool, true, false, cond, not, _&&_, _||_, true≢false}
 use lib.Dec.{ltb}
 use Rattle.model.specs.Least.{any, least, arg}
 use Rattle.model.specs.Sets.{count}
-use Rattle.model.proofs.Bools.{cases, clash, fails, or-left, or-right, Lt?, less, more, test<}
+use Rattle.model.proofs.Bools.{clash, fails, or-left, or-right, Lt?, less, more, test<}
 use Rattle.model.proofs.LoopLaws.{last-or, up-to}
 use Rattle.model.proofs.CountLaws.{count-find}
 

@@ -2,5 +2,11 @@ pub mod Bools
 pub mod LoopLaws
 pub mod SumLaws
 pub mod CountLaws
+pub mod TestSetLaws
 pub mod LeastLaws
 pub mod CostLaws
+pub mod SetLaws
+pub mod NeighbourLaws
+pub mod SearchLaws
+pub mod PlanLaws
+pub mod Example

@@ -9,10 +9,10 @@ use mathlib.Core.Path.{_≡_, refl, ap, subst, _∙_}
 use mathlib.Core.Logic.{_⊎_, inl, inr}
 use mathlib.Core.Bool.{Bool, true, false, cond, _&&_, and-false, true≢false}
 use mathlib.Core.List.{List, [], _++_}
-use borrow.Author.Tests.{eq-eqb, ne-eqb}
+use borrow.Author.Tests.{eq-eqb, ne-eqb, eqb-true}
 use lib.Dec.{eqb}
 use Rattle.model.specs.Loops.{allBelow, leading, fold, join}
-use Rattle.model.proofs.Bools.{cases, clash, and-left, and-right, cond-le}
+use Rattle.model.proofs.Bools.{cases, clash, cond-le}
 
 -- a number below m + 1 is m or below m
 pub last-or : {i m : ℕ} → i < suc m → (i ≡ m) ⊎ (i < m)
@@ -88,6 +88,18 @@ unfolding leading
 leading-le p zero = omega arith
 leading-le p (suc n) =
     cond-le (eqb (leading n p) n) (cond-le (p n) (omega arith) (omega arith)) (omega (arith, leading-le p n))
+
+-- p holds of each index of the run
+pub leading-holds : (p : ℕ → Bool) (n i : ℕ) → i < leading n p → p i ≡ true
+unfolding leading
+leading-holds p zero i l = absurd (not-suc-le-zero l)
+leading-holds p (suc n) i l = go (eqb (leading n p) n) (p n) (eqb-true (leading n p) n) refl (leading-holds p n i) l
+  where
+    go : (whole here : Bool) → (whole ≡ true → leading n p ≡ n) → p n ≡ here → (i < leading n p → p i ≡ true)
+        → i < cond whole (cond here (suc n) n) (leading n p) → p i ≡ true
+    go true true w e ih k = elim (last-or k) [ inl last ↦ rw last e | inr early ↦ let r = w refl in ih (omega arith) ]
+    go true false w e ih k = let r = w refl in ih (omega arith)
+    go false here w e ih k = ih k
 
 -- ---- fold
 

@@ -8,7 +8,7 @@ use mathlib.Core.Logic.{_⊎_, inl, inr}
 use mathlib.Core.Bool.{Bool, true, false, not, _&&_, _||_}
 use lib.Dec.{eqb}
 use Rattle.model.specs.Loops.{on, sum}
-use Rattle.model.proofs.Bools.{Eq?, same, diff, test, clash}
+use Rattle.model.proofs.Bools.{Eq?, same, diff, test}
 use Rattle.model.proofs.LoopLaws.{last-or}
 
 -- ---- for loops in code
@@ -59,6 +59,13 @@ pub sum-zero : (n : ℕ) → sum n (λ i. 0) ≡ 0
 unfolding sum
 sum-zero zero = refl
 sum-zero (suc n) = omega (arith, sum-zero n)
+
+-- a linear inequality between terms holds between the sums
+pub sum-linear : (n : ℕ) (u v w x y : ℕ → ℕ) → ((i : ℕ) → i < n → u i + v i ≤ w i + x i + 2 * y i)
+    → sum n u + sum n v ≤ sum n w + sum n x + 2 * sum n y
+unfolding sum
+sum-linear zero u v w x y h = omega arith
+sum-linear (suc n) u v w x y h = omega (arith, sum-linear n u v w x y (λ i k. h i (le-step k)), h n (lt-suc-self n))
 
 -- a term is at most the sum
 pub sum-term : (n : ℕ) (f : ℕ → ℕ) (i : ℕ) → i < n → f i ≤ sum n f
@@ -130,11 +137,6 @@ pub on-or-le : (a b : Bool) (x : ℕ) → on (a || b) x ≤ on a x + on b x
 on-or-le true b x = omega arith
 on-or-le false b x = omega arith
 
-pub on-or-ge : (a b : Bool) (x : ℕ) → (a ≡ true → b ≡ false) → on a x + on b x ≤ on (a || b) x
-on-or-ge true true x h = clash refl (h refl)
-on-or-ge true false x h = omega arith
-on-or-ge false b x h = omega arith
-
 -- what a second test keeps and what it leaves
 pub on-split : (a b : Bool) (x : ℕ) → on (a && b) x + on (a && not b) x ≡ on a x
 on-split true true x = omega arith
@@ -144,6 +146,21 @@ on-split false b x = refl
 pub on-sum : (n : ℕ) (b : Bool) (f : ℕ → ℕ) → on b (sum n f) ≡ sum n (λ i. on b (f i))
 on-sum n true f = refl
 on-sum n false f = sym (sum-zero n)
+
+-- an inequality at each member of H, summed
+pub sum-over : (m : ℕ) (H : ℕ → Bool) (a b c d : ℕ → ℕ) → ((i : ℕ) → i < m → H i ≡ true → a i + b i ≤ c i + d i)
+    → sum m (λ i. on (H i) (a i)) + sum m (λ i. on (H i) (b i)) ≤ sum m (λ i. on (H i) (c i)) + sum m (λ i. on (H i) (d i))
+sum-over m H a b c d h =
+    omega (
+      arith,
+      sum-mono m (λ i l. at i (H i) (h i l)),
+      sum-add m (λ i. on (H i) (a i)) (λ i. on (H i) (b i)),
+      sum-add m (λ i. on (H i) (c i)) (λ i. on (H i) (d i)),
+    )
+  where
+    at : (i : ℕ) (g : Bool) → (g ≡ true → a i + b i ≤ c i + d i) → on g (a i) + on g (b i) ≤ on g (c i) + on g (d i)
+    at i true k = k refl
+    at i false k = omega arith
 
 -- Double counting: each j below n stands at s j below m. The sum over the o in H of what stands at o is the sum over the j that stand in H.
 pub gather : (m n : ℕ) (H : ℕ → Bool) (s x : ℕ → ℕ) → ((j : ℕ) → j < n → s j < m)

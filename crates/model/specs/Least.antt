@@ -1,6 +1,6 @@
 -- The least value over the members of a set, and the member that attains it.
 use Prim.Native.Nat.{ℕ, zero, suc, min}
-use mathlib.Core.Bool.{cond, Bool, true, false, not, _&&_, _||_}
+use mathlib.Core.Bool.{cond, Bool, false, not, _&&_, _||_}
 use lib.Dec.{ltb}
 
 -- is some number below m in S

@@ -1,0 +1,56 @@
+-- The definitions computed on document 01's sheet S as an instance, so that a reader can see that they say what is meant.
+use Prim.Native.Nat.{ℕ, zero, suc}
+use mathlib.Core.Path.{_≡_, refl}
+use mathlib.Core.Bool.{true}
+use Rattle.model.specs.Loops.{allBelow, sum, join}
+use Rattle.model.specs.Least.{any, least, arg}
+use Rattle.model.specs.Sets.{member, with, without}
+use Rattle.model.specs.Instance.{Instance, metric, fourPointBPQ, fourPointPQ, fourPointQ, fourPoint, nearest, assigned, openingCost, serviceCost, totalCost}
+use Rattle.model.specs.Neighbours.{addAt, adds, dropAt, drops, swapAt, swapsOut, swaps, addDropSwap}
+use Rattle.model.specs.Search.{reached, better, best, next, descend, search}
+use Rattle.model.specs.Plans.{openCost, openStart, openSearch, limitedCost, limitedStart, limitedSearch}
+
+-- the entry of a row at 0, at 1, and at 2 and above
+abbrev row : ℕ → ℕ → ℕ → ℕ → ℕ
+row a b c zero = a
+row a b c (suc zero) = b
+row a b c (suc (suc j)) = c
+
+abbrev table : ℕ → ℕ → ℕ
+table zero = row 1 5 9
+table (suc zero) = row 3 1 5
+table (suc (suc i)) = row 9 5 1
+
+unfoldable pub example : Instance
+example = record { facilities = 3; clients = 3; opening = row 1 4 2; service = table; weight = λ j. 1 }
+
+pub example-metric : metric example ≡ true
+unfolding example metric fourPointBPQ fourPointPQ fourPointQ fourPoint allBelow
+example-metric = refl
+
+-- client 1 is as near to 0 as to 2, and is assigned to 0
+example-tie : assigned example (member 5) 1 ≡ 0
+unfolding example member assigned arg any
+example-tie = refl
+
+-- "It starts at {1} with 13, goes to {1, 2} with 11; then adding 0 and swapping 1 for 0 both give 10, and the add is earlier."
+example-start : openStart example ≡ 2
+unfolding example openStart openCost totalCost openingCost serviceCost nearest member least arg any sum
+example-start = refl
+
+example-open : openSearch example 2 ≡ reached 7 2
+unfolding example openSearch openCost totalCost openingCost serviceCost nearest member least any sum search descend next best better addDropSwap adds addAt drops dropAt swaps swapsOut swapAt with without join
+example-open = refl
+
+-- k = 1: yard 1, 1 move; k = 2: yards 1 and 2, 1 move; k = 3: all, 0 moves
+example-one : limitedSearch example (limitedStart 1) ≡ reached 2 1
+unfolding example limitedSearch limitedStart limitedCost serviceCost nearest member least any sum search descend next best better swaps swapsOut swapAt with without join
+example-one = refl
+
+example-two : limitedSearch example (limitedStart 2) ≡ reached 6 1
+unfolding example limitedSearch limitedStart limitedCost serviceCost nearest member least any sum search descend next best better swaps swapsOut swapAt with without join
+example-two = refl
+
+example-three : limitedSearch example (limitedStart 3) ≡ reached 7 0
+unfolding example limitedSearch limitedStart limitedCost serviceCost nearest member least any sum search descend next best better swaps swapsOut swapAt with without join
+example-three = refl

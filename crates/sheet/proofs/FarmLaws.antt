@@ -1,0 +1,63 @@
+-- A farm's stretch of a sheet that questions 1 to 4 pass is exactly the farm's m haul records; any other stretch is empty.
+use Prim.Native.Nat.{ℕ, _+_, _*_, _≤_, _<_}
+use native.Mathlib.Omega.{arith}
+use mathlib.Core.Path.{_≡_, ap, _∙_}
+use mathlib.Core.List.{List, []}
+use borrow.Author.Tests.{lt-ltb, le-ltb}
+use lib.ListN.{length, getD, take, drop, length-drop}
+use lib.Seq.{getD-take, getD-drop, length-take-le}
+use Rattle.sheet.specs.Records.{recordOf, recordAt}
+use Rattle.sheet.specs.Answers.{accepted, refused}
+use Rattle.sheet.specs.Sheet.{haul}
+use Rattle.sheet.specs.Reading.{counts, form, farmHauls}
+use Rattle.sheet.proofs.StretchLaws.{stretch-is}
+use Rattle.sheet.proofs.ShapeLaws.{row-within}
+use Rattle.sheet.proofs.AcceptedLaws.{has-form}
+
+-- a byte of a part of the bytes, and a record of it, is that at its place in the whole
+
+part-byte : (s : List ℕ) (k m i j : ℕ) → i < 8 * m → 8 * k + i ≡ j → getD (take (8 * m) (drop (8 * k) s)) i 0 ≡ getD s j 0
+part-byte s k m i j l e =
+    getD-take (8 * m) (drop (8 * k) s) i 0 l ∙ getD-drop (8 * k) s i 0 ∙ ap (λ x. getD s x 0) e
+
+part-record : (s : List ℕ) (k m a : ℕ) → a < m → recordAt (take (8 * m) (drop (8 * k) s)) a ≡ recordAt s (k + a)
+unfolding recordAt
+part-record s k m a below =
+    rw (
+      part-byte s k m (8 * a) (8 * (k + a)) (omega arith) (omega arith),
+      byte 1 (omega arith),
+      byte 2 (omega arith),
+      byte 3 (omega arith),
+      byte 4 (omega arith),
+      byte 5 (omega arith),
+      byte 6 (omega arith),
+      byte 7 (omega arith),
+    )
+  where
+    byte : (b : ℕ) → b < 8 → getD (take (8 * m) (drop (8 * k) s)) (8 * a + b) 0 ≡ getD s (8 * (k + a) + b) 0
+    byte b l = part-byte s k m (8 * a + b) (8 * (k + a) + b) (omega arith) (omega arith)
+
+module _ (s : List ℕ) (m n p : ℕ) (h : form s ≡ accepted (counts m n)) where
+  pub farm-none : n ≤ p → farmHauls s p ≡ []
+  unfolding farmHauls
+  farm-none above = rw (h, le-ltb p n above)
+
+  module _ (below : p < n) where
+    room : 8 * (m + p * m) + 8 * m ≤ length s
+    room = omega (arith, row-within m n p below, has-form s m n h .long)
+
+    pub farm-stretch : farmHauls s p ≡ take (8 * m) (drop (8 * (m + p * m)) s)
+    unfolding farmHauls
+    farm-stretch = let f = has-form s m n h in rw (h, lt-ltb p n below) (stretch-is s m p (f .few-yards) (omega (arith, f .few-farms)) room)
+
+    pub farm-length : length (farmHauls s p) ≡ 8 * m
+    farm-length =
+        rw farm-stretch
+        (length-take-le (8 * m) (drop (8 * (m + p * m)) s) (omega (arith, length-drop (8 * (m + p * m)) s, room)))
+
+    pub farm-record : (a : ℕ) → a < m → recordAt (farmHauls s p) a ≡ recordOf 0x48 a p 0 (haul s m a p)
+    farm-record a la = rw farm-stretch (part-record s (m + p * m) m a la ∙ has-form s m n h .haul-record a p la below)
+
+pub farm-refused : (s : List ℕ) (k p : ℕ) → form s ≡ refused k → farmHauls s p ≡ []
+unfolding farmHauls
+farm-refused s k p h = rw h

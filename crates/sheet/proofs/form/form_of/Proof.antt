@@ -1,0 +1,73 @@
+-- `form::form_of` meets its contract: each `return` is a case of `form`.
+use Prim.Native.Nat.{ℕ}
+use mathlib.Core.Path.{sym, ap₂, _∙_}
+use borrow.Author.Tests.{not-true, not-false}
+use Rattle.sheet.specs.Answers.{accepted}
+use Rattle.sheet.specs.Reading.{counts}
+use Rattle.sheet.proofs.FormLaws.{form-1, form-2, form-3, form-4, form-yes, some-yards, few-yards}
+use borrow.Author.Needs.{needs}
+use Rattle.sheet.proofs.form.form_of.Statement.{statement}
+use Rattle.sheet.proofs.form.form_of.Tie as tie
+
+length-good-requires : tie.Need-length-good-requires
+length-good-requires c κs = search needs
+
+returns : tie.Need-returns
+returns c = sym (form-1 _ (sym (c .before .length-good .ensures) ∙ not-true _ (c .if1 .taken)))
+
+records-good-requires : tie.Need-records-good-requires
+records-good-requires c κs = search needs
+
+returns-2 : tie.Need-returns-2
+returns-2 c = sym (form-2 _ (sym (c .before .before .before .length-good .ensures) ∙ not-false _ (c .before .before .if1 .left))
+    (sym (c .before .records-good .ensures) ∙ not-true _ (c .if2 .taken)))
+
+leading-yards-requires : tie.Need-leading-yards-requires
+leading-yards-requires c κs = search needs
+
+yards-good-requires : tie.Need-yards-good-requires
+yards-good-requires c κs = search needs
+
+returns-3 : tie.Need-returns-3
+returns-3 c = sym (form-3 _ (sym (c .before .before .before .before .before .before .length-good .ensures) ∙ not-false _ (c .before .before .before .before .before .if1 .left))
+    (sym (c .before .before .before .before .records-good .ensures) ∙ not-false _ (c .before .before .before .if2 .left))
+    (sym (c .before .yards-good .ensures) ∙ not-true _ (c .if3 .taken)))
+
+farm-count-requires : tie.Need-farm-count-requires
+farm-count-requires c κs = let y = c .before .before .leading-yards .ensures in
+    (y, rw y (some-yards _ (sym (c .before .yards-good .ensures) ∙ not-false _ (c .if3 .left))))
+
+hauls-good-requires : tie.Need-hauls-good-requires
+hauls-good-requires c κs = let y = c .before .before .before .leading-yards .ensures in
+    (y, c .farm-count .ensures, rw y (few-yards _ (sym (c .before .before .yards-good .ensures) ∙ not-false _ (c .before .if3 .left))))
+
+returns-4 : tie.Need-returns-4
+returns-4 c = sym (form-4 _ (sym (c .before .before .before .before .before .before .before .before .before .length-good .ensures) ∙ not-false _ (c .before .before .before .before .before .before .before .before .if1 .left))
+    (sym (c .before .before .before .before .before .before .before .records-good .ensures) ∙ not-false _ (c .before .before .before .before .before .before .if2 .left))
+    (sym (c .before .before .before .before .yards-good .ensures) ∙ not-false _ (c .before .before .before .if3 .left))
+    (sym (c .before .hauls-good .ensures) ∙ not-true _ (c .if4 .taken)))
+
+returns-5 : tie.Need-returns-5
+returns-5 c = ap₂ (λ (m n : ℕ). accepted (counts m n)) (c .before .before .before .before .before .leading-yards .ensures) (c .before .before .farm-count .ensures)
+    ∙ sym (form-yes _ record {
+      first = sym (c .before .before .before .before .before .before .before .before .before .length-good .ensures) ∙ not-false _ (c .before .before .before .before .before .before .before .before .if1 .left);
+      second = sym (c .before .before .before .before .before .before .before .records-good .ensures) ∙ not-false _ (c .before .before .before .before .before .before .if2 .left);
+      third = sym (c .before .before .before .before .yards-good .ensures) ∙ not-false _ (c .before .before .before .if3 .left);
+      fourth = sym (c .before .hauls-good .ensures) ∙ not-false _ (c .if4 .left);
+    })
+
+pub form-of-spec : {M : Type 1} → statement M
+form-of-spec =
+    tie.close
+    (tie.spec
+    length-good-requires
+    returns
+    records-good-requires
+    returns-2
+    leading-yards-requires
+    yards-good-requires
+    returns-3
+    farm-count-requires
+    hauls-good-requires
+    returns-4
+    returns-5)

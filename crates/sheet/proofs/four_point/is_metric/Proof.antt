@@ -1,0 +1,59 @@
+-- `four_point::is_metric` meets its contract. The invariant: the rule holds of every a passed.
+use mathlib.Core.Path.{_≡_, sym, _∙_}
+use mathlib.Core.Bool.{true}
+use Prim.Native.Nat.{_≤_, _-_}
+use native.Mathlib.Omega.{arith}
+use borrow.Author.Tests.{not-true, not-false}
+use Rattle.model.specs.Loops.{allBelow}
+use Rattle.model.proofs.LoopLaws.{all-none, all-more, all-stops}
+use Rattle.model.specs.Instance.{fourPointBPQ, metric}
+use Rattle.sheet.specs.Sheet.{instanceOf}
+use Rattle.sheet.specs.Questions.{question6}
+use Rattle.sheet.proofs.ShapeLaws.{facilities-are}
+use Rattle.sheet.proofs.four_point.is_metric.Statement.{statement}
+use Rattle.sheet.proofs.four_point.is_metric.Tie as tie
+
+abbrev Inv-loop : tie.InvT-loop
+Inv-loop sheet m n a₀ a = (a ≤ m) × (true ≡ allBelow a (fourPointBPQ (instanceOf sheet)))
+
+abbrev μ-loop : tie.MeasureT-loop
+μ-loop sheet m n a₀ a = m - a
+
+loop-holds : tie.Need-loop-holds Inv-loop μ-loop
+loop-holds c = (omega arith, all-none _)
+
+every-b-requires : tie.Need-every-b-requires Inv-loop μ-loop
+every-b-requires c κs = (c .before .before .before .pre, c .loop-test .taken)
+
+returns : tie.Need-returns Inv-loop μ-loop
+unfolding question6 metric
+returns c = sym (all-stops _ _ (c .before .before .before .loop .a) (omega (arith, facilities-are _ _ _ (c .before .before .before .before .before .pre))) (sym (c .before .every-b .ensures) ∙ not-true _ (c .if1 .taken)))
+
+add-a : tie.Need-add-a Inv-loop μ-loop
+add-a c = omega arith
+
+loop-less : tie.Need-loop-less Inv-loop μ-loop
+loop-less c = omega arith
+
+loop-again : tie.Need-loop-again Inv-loop μ-loop
+loop-again c = (omega arith, all-more _ _ (c .before .before .before .loop .inv .1) (sym (c .before .every-b .ensures) ∙ not-false _ (c .if1 .left)))
+
+returns-2 : tie.Need-returns-2 Inv-loop μ-loop
+unfolding question6 metric
+returns-2 c = let b = c .before .before .before in
+    let e : c .before .loop .a ≡ instanceOf (b .args .sheet .now) .facilities = omega (arith, facilities-are _ _ _ (b .pre)) in
+    rw e at (c .before .loop .inv .1)
+
+pub is-metric-spec : {M : Type 1} → statement M
+is-metric-spec =
+    tie.close
+    (tie.spec
+    Inv-loop
+    μ-loop
+    loop-holds
+    every-b-requires
+    returns
+    add-a
+    loop-less
+    loop-again
+    returns-2)

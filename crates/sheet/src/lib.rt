@@ -1,0 +1,75 @@
+// The haul sheet: eight-byte records, read where they lie.
+//
+// `read` asks questions 1 to 6 of document 01, `farm_hauls` gives one farm's stretch of the sheet. Every call is total: it
+// takes any bytes at all. `Record` is the one place that knows the bytes of a record.
+mod amounts;
+mod form;
+mod four_point;
+mod record;
+
+pub use record::Record;
+ghost use mathlib.Core.Path.{_≡_};
+ghost use Rattle.sheet.specs.Reading.{meaning, reading, stretch, farmHauls};
+
+pub const MOST_YARDS: usize = 32;
+
+pub const MOST_FARMS: usize = 128;
+
+// What reading answers: the counts of an accepted sheet, or the number of the first question that it fails.
+pub enum Reading {
+    Accepted { yards: usize, farms: usize },
+    Refused(u8),
+}
+
+// The counts of yards and farms, or the number of the first question of 1 to 6 that is answered no.
+pub fn read(sheet: &[u8]) -> Reading
+    ensures { λ r. ⌜ meaning r ≡ reading (now (sheet .entry)) ⌝ }
+{
+    match form::form_of(sheet) {
+        Reading::Accepted { yards, farms } => {
+            if !amounts::amounts_good(sheet, yards) {
+                return Reading::Refused(5);
+            }
+            if !four_point::is_metric(sheet, yards, farms) {
+                return Reading::Refused(6);
+            }
+            Reading::Accepted { yards, farms }
+        }
+        Reading::Refused(k) => Reading::Refused(k),
+    }
+}
+
+// The hauls of a farm: its part of the caller's sheet, uncopied. Empty for a farm that the sheet does not have, and for a
+// sheet that questions 1 to 4 turn down.
+pub fn farm_hauls(sheet: &[u8], farm: usize) -> &[u8]
+    ensures { λ r. ⌜ now r ≡ farmHauls (now (sheet .entry)) farm ⌝ }
+{
+    match form::form_of(sheet) {
+        Reading::Accepted { yards, farms } => {
+            if farm < farms {
+                farm_stretch(sheet, yards, farm)
+            } else {
+                &sheet[..0]
+            }
+        }
+        Reading::Refused(_) => &sheet[..0],
+    }
+}
+
+// The same for a caller that has read the sheet and knows its count of yards: one test, and no question asked again.
+pub fn farm_stretch(sheet: &[u8], yards: usize, farm: usize) -> &[u8]
+    ensures { λ r. ⌜ now r ≡ stretch (now (sheet .entry)) yards farm ⌝ }
+{
+    if yards > MOST_YARDS {
+        return &sheet[..0];
+    }
+    if farm >= MOST_FARMS {
+        return &sheet[..0];
+    }
+    let from = Record::LEN * (yards + farm * yards);
+    let to = from + Record::LEN * yards;
+    if sheet.len() < to {
+        return &sheet[..0];
+    }
+    &sheet[from..to]
+}
