@@ -7,6 +7,8 @@ mod form;
 mod four_point;
 mod record;
 
+pub use record::KIND_HAUL;
+pub use record::KIND_YARD;
 pub use record::Record;
 ghost use mathlib.Core.Path.{_≡_};
 ghost use Rattle.sheet.specs.Reading.{meaning, reading, stretch, farmHauls};

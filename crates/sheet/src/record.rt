@@ -79,8 +79,8 @@ impl Record {
     {
         let kind = self.kind;
         match kind {
-            0x59 => self.farm == 0 && self.byte3 == 0,
-            0x48 => self.byte3 == 0,
+            KIND_YARD => self.farm == 0 && self.byte3 == 0,
+            KIND_HAUL => self.byte3 == 0,
             _ => false,
         }
     }

@@ -7,10 +7,10 @@ use Rattle.read_cases.proofs.put_farms.Statement.{statement}
 use Rattle.read_cases.proofs.put_farms.Tie as tie
 
 abbrev Inv-loop : tie.InvT-loop
-Inv-loop area₀ from yards farms haul at₀ farm₀ area at farm = length area ≡ length area₀
+Inv-loop area₀ from farms yards amount at₀ farm₀ area at farm = length area ≡ length area₀
 
 abbrev μ-loop : tie.MeasureT-loop
-μ-loop area₀ from yards farms haul at₀ farm₀ area at farm = farms - farm
+μ-loop area₀ from farms yards amount at₀ farm₀ area at farm = farms - farm
 
 loop-holds : tie.Need-loop-holds Inv-loop μ-loop
 loop-holds c = refl

@@ -7,10 +7,10 @@ use Rattle.read_cases.proofs.put_yards.Statement.{statement}
 use Rattle.read_cases.proofs.put_yards.Tie as tie
 
 abbrev Inv-loop : tie.InvT-loop
-Inv-loop area₀ yards fee at₀ yard₀ area at yard = length area ≡ length area₀
+Inv-loop area₀ yards fee at₀ i₀ area at i = length area ≡ length area₀
 
 abbrev μ-loop : tie.MeasureT-loop
-μ-loop area₀ yards fee at₀ yard₀ area at yard = yards - yard
+μ-loop area₀ yards fee at₀ i₀ area at i = yards - i
 
 loop-holds : tie.Need-loop-holds Inv-loop μ-loop
 loop-holds c = refl
@@ -18,8 +18,8 @@ loop-holds c = refl
 put-yard-requires : tie.Need-put-yard-requires Inv-loop μ-loop
 put-yard-requires c κs = tt
 
-add-yard : tie.Need-add-yard Inv-loop μ-loop
-add-yard c = omega arith
+add-i : tie.Need-add-i Inv-loop μ-loop
+add-i c = omega arith
 
 loop-less : tie.Need-loop-less Inv-loop μ-loop
 loop-less c = omega arith
@@ -41,7 +41,7 @@ put-yards-spec =
     μ-loop
     loop-holds
     put-yard-requires
-    add-yard
+    add-i
     loop-less
     loop-again
     same-length
