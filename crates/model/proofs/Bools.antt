@@ -1,8 +1,8 @@
 -- Tests: two cases on a test with its equation, what && || not say, and the tests of numbers with their meaning.
 use Prim.Native.Nat.{ℕ, _≤_, _<_}
 use mathlib.Core.Path.{_≡_, refl, sym, _∙_}
-use mathlib.Core.Bool.{Bool, true, false, cond, _&&_, _||_, true≢false, false≢true}
-use borrow.Author.Tests.{eq-eqb, eqb-true, eqb-false, ltb-true, ltb-false}
+use mathlib.Core.Bool.{Bool, true, false, cond, not, _&&_, _||_, true≢false, false≢true}
+use borrow.Author.Tests.{eq-eqb, eqb-true, eqb-false, ltb-true, ltb-false, not-true, not-false}
 use lib.Dec.{eqb, ltb}
 
 -- two cases on a test, each with its equation: `cases (S i) (λ e. ..) (λ e. ..)`
@@ -45,6 +45,13 @@ eqb-self a = eq-eqb a a refl
 
 pub eqb-swap : (a b : ℕ) → eqb a b ≡ true → eqb b a ≡ true
 eqb-swap a b h = eq-eqb b a (sym (eqb-true a b h))
+
+-- what a branch on `!r` says of the question q, where r is the answer to it
+pub said-no : {r q : Bool} → r ≡ q → not r ≡ true → q ≡ false
+said-no {r} e h = sym e ∙ not-true r h
+
+pub said-yes : {r q : Bool} → r ≡ q → not r ≡ false → q ≡ true
+said-yes {r} e h = sym e ∙ not-false r h
 
 -- The two ways that `eqb a b` comes out, each with its meaning: match on `test a b` together with the Boolean.
 pub data Eq? (a b : ℕ) : Bool → Type 0 where

@@ -3,6 +3,7 @@ pub mod LoopLaws
 pub mod SumLaws
 pub mod CountLaws
 pub mod TestSetLaws
+pub mod ListingLaws
 pub mod LeastLaws
 pub mod CostLaws
 pub mod SetLaws

@@ -9,10 +9,10 @@ use lib.Seq.{getD-take, getD-drop, length-take-le}
 use Rattle.sheet.specs.Records.{recordOf, recordAt}
 use Rattle.sheet.specs.Answers.{accepted, refused}
 use Rattle.sheet.specs.Sheet.{haul}
-use Rattle.sheet.specs.Reading.{counts, form, farmHauls}
+use Rattle.sheet.specs.Reading.{counts, form, stretch, farmHauls}
 use Rattle.sheet.proofs.StretchLaws.{stretch-is}
 use Rattle.sheet.proofs.ShapeLaws.{row-within}
-use Rattle.sheet.proofs.AcceptedLaws.{has-form}
+use Rattle.sheet.proofs.AcceptedLaws.{HasForm, has-form}
 
 -- a byte of a part of the bytes, and a record of it, is that at its place in the whole
 
@@ -37,26 +37,37 @@ part-record s k m a below =
     byte : (b : ℕ) → b < 8 → getD (take (8 * m) (drop (8 * k) s)) (8 * a + b) 0 ≡ getD s (8 * (k + a) + b) 0
     byte b l = part-byte s k m (8 * a + b) (8 * (k + a) + b) (omega arith) (omega arith)
 
+-- ---- for callers that have read the sheet
+
+module _ (s : List ℕ) (m n p : ℕ) (f : HasForm s m n) (below : p < n) where
+  part-of : stretch s m p ≡ take (8 * m) (drop (8 * (m + p * m)) s)
+  part-of = stretch-is s m p (f .few-yards) (omega (arith, f .few-farms)) (omega (arith, row-within m n p below, f .long))
+
+  pub stretch-length : length (stretch s m p) ≡ 8 * m
+  stretch-length =
+      rw part-of
+      (length-take-le (8 * m) (drop (8 * (m + p * m)) s) (omega (arith, length-drop (8 * (m + p * m)) s, row-within m n p below, f .long)))
+
+  pub stretch-record : (a : ℕ) → a < m → recordAt (stretch s m p) a ≡ recordOf 0x48 a p 0 (haul s m a p)
+  stretch-record a la = rw part-of (part-record s (m + p * m) m a la ∙ f .haul-record a p la below)
+
+-- ---- for any caller
+
 module _ (s : List ℕ) (m n p : ℕ) (h : form s ≡ accepted (counts m n)) where
   pub farm-none : n ≤ p → farmHauls s p ≡ []
   unfolding farmHauls
   farm-none above = rw (h, le-ltb p n above)
 
   module _ (below : p < n) where
-    room : 8 * (m + p * m) + 8 * m ≤ length s
-    room = omega (arith, row-within m n p below, has-form s m n h .long)
-
-    pub farm-stretch : farmHauls s p ≡ take (8 * m) (drop (8 * (m + p * m)) s)
+    pub farm-stretch : farmHauls s p ≡ stretch s m p
     unfolding farmHauls
-    farm-stretch = let f = has-form s m n h in rw (h, lt-ltb p n below) (stretch-is s m p (f .few-yards) (omega (arith, f .few-farms)) room)
+    farm-stretch = rw (h, lt-ltb p n below)
 
     pub farm-length : length (farmHauls s p) ≡ 8 * m
-    farm-length =
-        rw farm-stretch
-        (length-take-le (8 * m) (drop (8 * (m + p * m)) s) (omega (arith, length-drop (8 * (m + p * m)) s, room)))
+    farm-length = rw farm-stretch (stretch-length s m n p (has-form s m n h) below)
 
     pub farm-record : (a : ℕ) → a < m → recordAt (farmHauls s p) a ≡ recordOf 0x48 a p 0 (haul s m a p)
-    farm-record a la = rw farm-stretch (part-record s (m + p * m) m a la ∙ has-form s m n h .haul-record a p la below)
+    farm-record a la = rw farm-stretch (stretch-record s m n p (has-form s m n h) below a la)
 
 pub farm-refused : (s : List ℕ) (k p : ℕ) → form s ≡ refused k → farmHauls s p ≡ []
 unfolding farmHauls

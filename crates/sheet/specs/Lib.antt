@@ -1,4 +1,5 @@
--- Records: eight bytes. Answers: a refusal number or a result. Sheet: what stands where. Questions: 1 to 6. Reading: what the calls give.
+-- Records: eight bytes. Answers: a refusal number or a result. Sheet: what stands where, and the door to the model. Questions: 1 to 6.
+-- Shape: what private functions require. Reading: what the calls give.
 pub mod Records
 pub mod Answers
 pub mod Sheet

@@ -58,7 +58,7 @@ pub fn farm_hauls(sheet: &[u8], farm: usize) -> &[u8]
     }
 }
 
-// The same for a caller that has read the sheet and knows its count of yards: one test, and no question asked again.
+// The same for a caller that has read the sheet and knows its count of yards: no question is asked again.
 pub fn farm_stretch(sheet: &[u8], yards: usize, farm: usize) -> &[u8]
     ensures { λ r. ⌜ now r ≡ stretch (now (sheet .entry)) yards farm ⌝ }
 {

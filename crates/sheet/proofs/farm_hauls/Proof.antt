@@ -5,10 +5,6 @@ use Rattle.sheet.specs.Reading.{meaning, farmHauls}
 use borrow.Author.Needs.{needs}
 use Rattle.sheet.proofs.farm_hauls.Statement.{statement}
 use Rattle.sheet.proofs.farm_hauls.Tie as tie
-use Rattle.sheet.proofs.farm_hauls.Reads as reads
-use Rattle.sheet.proofs.farm_hauls.Lts as lts
-use Rattle.sheet.proofs.farm_stretch.Reads as farm-stretch-reads
-use Rattle.sheet.proofs.form.form_of.Reads as form-of-reads
 
 form-of-requires : tie.Need-form-of-requires
 form-of-requires c κs = search needs
@@ -30,16 +26,18 @@ slice-aggregate-result-2 c = search needs
 
 returns : tie.Need-returns
 unfolding farmHauls
-returns c = rw (sym (c .before .before .before .before .before .form-of .ensures) ∙ ap meaning (c .before .before .before .yards .given .1), lt-ltb _ _ (c .before .if1 .taken))
-    (c .farm-stretch .ensures)
+returns c = let arm = c .before .before .before in
+    rw (sym (arm .before .before .form-of .ensures) ∙ ap meaning (arm .yards .given .1), lt-ltb _ _ (c .before .if1 .taken)) (c .farm-stretch .ensures)
 
 returns-2 : tie.Need-returns-2
 unfolding farmHauls
-returns-2 c = rw (sym (c .before .before .before .before .before .form-of .ensures) ∙ ap meaning (c .before .before .before .yards .given .1), le-ltb _ _ (c .before .if1 .left))
+returns-2 c = let arm = c .before .before .before in
+    rw (sym (arm .before .before .form-of .ensures) ∙ ap meaning (arm .yards .given .1), le-ltb _ _ (c .before .if1 .left))
 
 returns-3 : tie.Need-returns-3
 unfolding farmHauls
-returns-3 c = rw (sym (c .before .before .before .form-of .ensures) ∙ ap meaning (c .before .enum-told .given .1))
+returns-3 c = let arm = c .before in
+    rw (sym (arm .before .before .form-of .ensures) ∙ ap meaning (arm .enum-told .given .1))
 
 pub farm-hauls-spec : {M : Type 1} → statement M
 farm-hauls-spec =

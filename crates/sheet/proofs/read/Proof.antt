@@ -1,6 +1,6 @@
 -- `read` meets its contract: each `return` is a case of `reading`.
 use mathlib.Core.Path.{sym, ap, _∙_}
-use borrow.Author.Tests.{not-true, not-false}
+use Rattle.model.proofs.Bools.{said-no, said-yes}
 use Rattle.sheet.specs.Reading.{meaning}
 use Rattle.sheet.proofs.ReadingLaws.{reading-form, reading-5, reading-6, reading-yes}
 use Rattle.sheet.proofs.AcceptedLaws.{has-form, shape-of}
@@ -15,30 +15,38 @@ enum-known-yards : tie.Need-enum-known-yards
 enum-known-yards c = search needs
 
 amounts-good-requires : tie.Need-amounts-good-requires
-amounts-good-requires c κs = sym (has-form _ _ _ (sym (c .before .before .before .form-of .ensures) ∙ ap meaning (c .before .yards .given .1)) .yards-are)
+amounts-good-requires c κs = let arm = c .before in
+    sym (has-form _ _ _ (sym (arm .before .before .form-of .ensures) ∙ ap meaning (arm .yards .given .1)) .yards-are)
 
 returns : tie.Need-returns
-returns c = sym (reading-5 _ (sym (c .before .before .before .before .before .form-of .ensures) ∙ ap meaning (c .before .before .before .yards .given .1))
-    (sym (c .before .amounts-good .ensures) ∙ not-true _ (c .if1 .taken)))
+returns c = let arm = c .before .before .before in
+    sym (reading-5 _ (sym (arm .before .before .form-of .ensures) ∙ ap meaning (arm .yards .given .1))
+    (said-no (c .before .amounts-good .ensures) (c .if1 .taken)))
 
 is-metric-requires : tie.Need-is-metric-requires
-is-metric-requires c κs = shape-of (has-form _ _ _ (sym (c .before .before .before .before .before .form-of .ensures) ∙ ap meaning (c .before .before .before .yards .given .1)))
+is-metric-requires c κs = let arm = c .before .before .before in
+    shape-of (has-form _ _ _ (sym (arm .before .before .form-of .ensures) ∙ ap meaning (arm .yards .given .1)))
 
 returns-2 : tie.Need-returns-2
-returns-2 c = sym (reading-6 _ (sym (c .before .before .before .before .before .before .before .form-of .ensures) ∙ ap meaning (c .before .before .before .before .before .yards .given .1))
-    (sym (c .before .before .before .amounts-good .ensures) ∙ not-false _ (c .before .before .if1 .left))
-    (sym (c .before .is-metric .ensures) ∙ not-true _ (c .if2 .taken)))
+returns-2 c = let amounts = c .before .before in
+    let arm = amounts .before .before .before in
+    sym (reading-6 _ (sym (arm .before .before .form-of .ensures) ∙ ap meaning (arm .yards .given .1))
+    (said-yes (amounts .before .amounts-good .ensures) (amounts .if1 .left))
+    (said-no (c .before .is-metric .ensures) (c .if2 .taken)))
 
 enum-known-k : tie.Need-enum-known-k
 enum-known-k c = search needs
 
 returns-3 : tie.Need-returns-3
-returns-3 c = sym (reading-yes _ (sym (c .before .before .before .before .before .before .before .form-of .ensures) ∙ ap meaning (c .before .before .before .before .before .yards .given .1))
-    (sym (c .before .before .before .amounts-good .ensures) ∙ not-false _ (c .before .before .if1 .left))
-    (sym (c .before .is-metric .ensures) ∙ not-false _ (c .if2 .left)))
+returns-3 c = let amounts = c .before .before in
+    let arm = amounts .before .before .before in
+    sym (reading-yes _ (sym (arm .before .before .form-of .ensures) ∙ ap meaning (arm .yards .given .1))
+    (said-yes (amounts .before .amounts-good .ensures) (amounts .if1 .left))
+    (said-yes (c .before .is-metric .ensures) (c .if2 .left)))
 
 returns-4 : tie.Need-returns-4
-returns-4 c = sym (reading-form _ _ (sym (c .before .before .before .form-of .ensures) ∙ ap meaning (c .before .k .given .1)))
+returns-4 c = let arm = c .before in
+    sym (reading-form _ _ (sym (arm .before .before .form-of .ensures) ∙ ap meaning (arm .k .given .1)))
 
 pub read-spec : {M : Type 1} → statement M
 read-spec =

@@ -1,7 +1,7 @@
 -- `amounts::amounts_good` meets its contract: fees first, then hauls.
 use mathlib.Core.Path.{sym, _∙_}
 use native.Mathlib.Omega.{arith}
-use borrow.Author.Tests.{not-true, not-false}
+use Rattle.model.proofs.Bools.{said-no, said-yes}
 use Rattle.sheet.proofs.QuestionLaws.{fee-above, fees-good}
 use Rattle.sheet.proofs.FormLaws.{yards-le, hauls-are}
 use Rattle.sheet.proofs.amounts.amounts_good.Statement.{statement}
@@ -11,7 +11,7 @@ amounts-within-requires : tie.Need-amounts-within-requires
 amounts-within-requires c κs = omega (arith, yards-le (c .before .args .sheet .now))
 
 returns : tie.Need-returns
-returns c = sym (fee-above _ (rw (← c .before .before .before .pre) (sym (c .before .amounts-within .ensures) ∙ not-true _ (c .if1 .taken))))
+returns c = sym (fee-above _ (rw (← c .before .before .before .pre) (said-no (c .before .amounts-within .ensures) (c .if1 .taken))))
 
 sub-amounts-within : tie.Need-sub-amounts-within
 sub-amounts-within c = omega (arith, yards-le (c .before .before .before .args .sheet .now))
@@ -22,7 +22,8 @@ amounts-within-requires-2 c κs = omega (arith, yards-le (c .before .before .bef
 returns-2 : tie.Need-returns-2
 returns-2 c = let s = c .before .before .before .before in
     c .amounts-within2 .ensures
-    ∙ rw (s .pre, ← hauls-are (s .args .sheet .now)) (fees-good _ (rw (← s .pre) (sym (c .before .before .amounts-within .ensures) ∙ not-false _ (c .before .if1 .left))))
+    ∙ rw (s .pre, ← hauls-are (s .args .sheet .now)) (fees-good _ (rw (← s .pre)
+    (said-yes (c .before .before .amounts-within .ensures) (c .before .if1 .left))))
 
 pub amounts-good-spec : {M : Type 1} → statement M
 amounts-good-spec =

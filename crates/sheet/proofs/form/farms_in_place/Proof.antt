@@ -1,9 +1,9 @@
 -- `form::farms_in_place` meets its contract. The invariant: every farm passed is in its place.
-use mathlib.Core.Path.{_≡_, sym, _∙_}
+use mathlib.Core.Path.{_≡_, sym}
 use mathlib.Core.Bool.{true}
 use Prim.Native.Nat.{_≤_, _-_}
 use native.Mathlib.Omega.{arith}
-use borrow.Author.Tests.{not-true, not-false}
+use Rattle.model.proofs.Bools.{said-no, said-yes}
 use Rattle.model.specs.Loops.{allBelow}
 use Rattle.model.proofs.LoopLaws.{all-none, all-more, all-stops}
 use Rattle.sheet.proofs.ShapeLaws.{row-within}
@@ -25,7 +25,7 @@ farm-in-place-requires c κs = let a = c .before .before .before .args in
     omega (arith, row-within (a .m) (a .n) (c .before .loop .p) (c .loop-test .taken))
 
 returns : tie.Need-returns Inv-loop μ-loop
-returns c = sym (all-stops _ _ (c .before .before .before .loop .p) (omega arith) (sym (c .before .farm-in-place .ensures) ∙ not-true _ (c .if1 .taken)))
+returns c = sym (all-stops _ _ (c .before .before .before .loop .p) (omega arith) (said-no (c .before .farm-in-place .ensures) (c .if1 .taken)))
 
 add-p : tie.Need-add-p Inv-loop μ-loop
 add-p c = omega arith
@@ -34,7 +34,7 @@ loop-less : tie.Need-loop-less Inv-loop μ-loop
 loop-less c = omega arith
 
 loop-again : tie.Need-loop-again Inv-loop μ-loop
-loop-again c = (omega arith, all-more _ _ (c .before .before .before .loop .inv .1) (sym (c .before .farm-in-place .ensures) ∙ not-false _ (c .if1 .left)))
+loop-again c = (omega arith, all-more _ _ (c .before .before .before .loop .inv .1) (said-yes (c .before .farm-in-place .ensures) (c .if1 .left)))
 
 returns-2 : tie.Need-returns-2 Inv-loop μ-loop
 returns-2 c = let e : c .before .loop .p ≡ c .before .before .before .args .n = omega arith in

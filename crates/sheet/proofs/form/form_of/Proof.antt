@@ -1,7 +1,7 @@
 -- `form::form_of` meets its contract: each `return` is a case of `form`.
 use Prim.Native.Nat.{ℕ}
 use mathlib.Core.Path.{sym, ap₂, _∙_}
-use borrow.Author.Tests.{not-true, not-false}
+use Rattle.model.proofs.Bools.{said-no, said-yes}
 use Rattle.sheet.specs.Answers.{accepted}
 use Rattle.sheet.specs.Reading.{counts}
 use Rattle.sheet.proofs.FormLaws.{form-1, form-2, form-3, form-4, form-yes, some-yards, few-yards}
@@ -13,14 +13,14 @@ length-good-requires : tie.Need-length-good-requires
 length-good-requires c κs = search needs
 
 returns : tie.Need-returns
-returns c = sym (form-1 _ (sym (c .before .length-good .ensures) ∙ not-true _ (c .if1 .taken)))
+returns c = sym (form-1 _ (said-no (c .before .length-good .ensures) (c .if1 .taken)))
 
 records-good-requires : tie.Need-records-good-requires
 records-good-requires c κs = search needs
 
 returns-2 : tie.Need-returns-2
-returns-2 c = sym (form-2 _ (sym (c .before .before .before .length-good .ensures) ∙ not-false _ (c .before .before .if1 .left))
-    (sym (c .before .records-good .ensures) ∙ not-true _ (c .if2 .taken)))
+returns-2 c = let first = c .before .before in
+    sym (form-2 _ (said-yes (first .before .length-good .ensures) (first .if1 .left)) (said-no (c .before .records-good .ensures) (c .if2 .taken)))
 
 leading-yards-requires : tie.Need-leading-yards-requires
 leading-yards-requires c κs = search needs
@@ -29,31 +29,39 @@ yards-good-requires : tie.Need-yards-good-requires
 yards-good-requires c κs = search needs
 
 returns-3 : tie.Need-returns-3
-returns-3 c = sym (form-3 _ (sym (c .before .before .before .before .before .before .length-good .ensures) ∙ not-false _ (c .before .before .before .before .before .if1 .left))
-    (sym (c .before .before .before .before .records-good .ensures) ∙ not-false _ (c .before .before .before .if2 .left))
-    (sym (c .before .yards-good .ensures) ∙ not-true _ (c .if3 .taken)))
+returns-3 c = let second = c .before .before .before in
+    let first = second .before .before in
+    sym (form-3 _ (said-yes (first .before .length-good .ensures) (first .if1 .left))
+    (said-yes (second .before .records-good .ensures) (second .if2 .left))
+    (said-no (c .before .yards-good .ensures) (c .if3 .taken)))
 
 farm-count-requires : tie.Need-farm-count-requires
 farm-count-requires c κs = let y = c .before .before .leading-yards .ensures in
-    (y, rw y (some-yards _ (sym (c .before .yards-good .ensures) ∙ not-false _ (c .if3 .left))))
+    (y, rw y (some-yards _ (said-yes (c .before .yards-good .ensures) (c .if3 .left))))
 
 hauls-good-requires : tie.Need-hauls-good-requires
 hauls-good-requires c κs = let y = c .before .before .before .leading-yards .ensures in
-    (y, c .farm-count .ensures, rw y (few-yards _ (sym (c .before .before .yards-good .ensures) ∙ not-false _ (c .before .if3 .left))))
+    (y, c .farm-count .ensures, rw y (few-yards _ (said-yes (c .before .before .yards-good .ensures) (c .before .if3 .left))))
 
 returns-4 : tie.Need-returns-4
-returns-4 c = sym (form-4 _ (sym (c .before .before .before .before .before .before .before .before .before .length-good .ensures) ∙ not-false _ (c .before .before .before .before .before .before .before .before .if1 .left))
-    (sym (c .before .before .before .before .before .before .before .records-good .ensures) ∙ not-false _ (c .before .before .before .before .before .before .if2 .left))
-    (sym (c .before .before .before .before .yards-good .ensures) ∙ not-false _ (c .before .before .before .if3 .left))
-    (sym (c .before .hauls-good .ensures) ∙ not-true _ (c .if4 .taken)))
+returns-4 c = let third = c .before .before .before in
+    let second = third .before .before .before in
+    let first = second .before .before in
+    sym (form-4 _ (said-yes (first .before .length-good .ensures) (first .if1 .left))
+    (said-yes (second .before .records-good .ensures) (second .if2 .left))
+    (said-yes (third .before .yards-good .ensures) (third .if3 .left))
+    (said-no (c .before .hauls-good .ensures) (c .if4 .taken)))
 
 returns-5 : tie.Need-returns-5
-returns-5 c = ap₂ (λ (m n : ℕ). accepted (counts m n)) (c .before .before .before .before .before .leading-yards .ensures) (c .before .before .farm-count .ensures)
+returns-5 c = let third = c .before .before .before in
+    let second = third .before .before .before in
+    let first = second .before .before in
+    ap₂ (λ (m n : ℕ). accepted (counts m n)) (third .before .before .leading-yards .ensures) (c .before .before .farm-count .ensures)
     ∙ sym (form-yes _ record {
-      first = sym (c .before .before .before .before .before .before .before .before .before .length-good .ensures) ∙ not-false _ (c .before .before .before .before .before .before .before .before .if1 .left);
-      second = sym (c .before .before .before .before .before .before .before .records-good .ensures) ∙ not-false _ (c .before .before .before .before .before .before .if2 .left);
-      third = sym (c .before .before .before .before .yards-good .ensures) ∙ not-false _ (c .before .before .before .if3 .left);
-      fourth = sym (c .before .hauls-good .ensures) ∙ not-false _ (c .if4 .left);
+      first = said-yes (first .before .length-good .ensures) (first .if1 .left);
+      second = said-yes (second .before .records-good .ensures) (second .if2 .left);
+      third = said-yes (third .before .yards-good .ensures) (third .if3 .left);
+      fourth = said-yes (c .before .hauls-good .ensures) (c .if4 .left);
     })
 
 pub form-of-spec : {M : Type 1} → statement M

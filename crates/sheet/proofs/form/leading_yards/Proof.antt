@@ -1,8 +1,8 @@
 -- `form::leading_yards` meets its contract. The invariant: every record passed is a yard.
-use mathlib.Core.Path.{_≡_, sym, _∙_}
+use mathlib.Core.Path.{_≡_, sym}
 use Prim.Native.Nat.{_≤_, _-_}
 use native.Mathlib.Omega.{arith}
-use borrow.Author.Tests.{not-true, not-false}
+use Rattle.model.proofs.Bools.{said-no, said-yes}
 use Rattle.model.specs.Loops.{leading}
 use Rattle.model.proofs.LoopLaws.{leading-none, leading-more, leading-stops}
 use Rattle.sheet.specs.Sheet.{records, isYard, yards}
@@ -28,7 +28,7 @@ loop-less : tie.Need-loop-less Inv-loop μ-loop
 loop-less c = omega arith
 
 loop-again : tie.Need-loop-again Inv-loop μ-loop
-loop-again c = (omega arith, leading-more _ _ (c .before .before .before .loop .inv .1) (sym (c .before .is-yard .ensures) ∙ not-false _ (c .if1 .left)))
+loop-again c = (omega arith, leading-more _ _ (c .before .before .before .loop .inv .1) (said-yes (c .before .is-yard .ensures) (c .if1 .left)))
 
 returns : tie.Need-returns Inv-loop μ-loop
 unfolding yards
@@ -37,7 +37,8 @@ returns c = let e : c .before .loop .i ≡ records (c .before .before .before .a
 
 returns-2 : tie.Need-returns-2 Inv-loop μ-loop
 unfolding yards
-returns-2 c = sym (leading-stops _ _ (c .before .before .before .loop .i) (c .before .before .before .loop .inv .1) (omega arith) (sym (c .before .is-yard .ensures) ∙ not-true _ (c .if1 .taken)))
+returns-2 c = sym (leading-stops _ _ (c .before .before .before .loop .i) (c .before .before .before .loop .inv .1) (omega arith)
+    (said-no (c .before .is-yard .ensures) (c .if1 .taken)))
 
 pub leading-yards-spec : {M : Type 1} → statement M
 leading-yards-spec =

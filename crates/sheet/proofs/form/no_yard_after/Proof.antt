@@ -33,7 +33,8 @@ is-yard-requires c κs = omega arith
 
 returns : tie.Need-returns Inv-loop μ-loop
 unfolding noYardAfter
-returns c = sym (all-stops _ _ (c .before .before .before .loop .i) (omega (arith, hauls-are (c .before .before .before .before .before .args .sheet .now))) (ap not (sym (c .before .is-yard .ensures) ∙ c .if1 .taken)))
+returns c = sym (all-stops _ _ (c .before .before .before .loop .i) (omega (arith, hauls-are (c .before .before .before .before .before .args .sheet .now))) (ap not
+    (sym (c .before .is-yard .ensures) ∙ c .if1 .taken)))
 
 add-i : tie.Need-add-i Inv-loop μ-loop
 add-i c = omega arith

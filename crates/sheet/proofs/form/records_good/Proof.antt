@@ -1,9 +1,9 @@
 -- `form::records_good` meets its contract. The invariant: every record passed is well-formed.
-use mathlib.Core.Path.{_≡_, sym, _∙_}
+use mathlib.Core.Path.{_≡_, sym}
 use mathlib.Core.Bool.{true}
 use Prim.Native.Nat.{_≤_, _-_}
 use native.Mathlib.Omega.{arith}
-use borrow.Author.Tests.{not-true, not-false}
+use Rattle.model.proofs.Bools.{said-no, said-yes}
 use Rattle.model.specs.Loops.{allBelow}
 use Rattle.model.proofs.LoopLaws.{all-none, all-more, all-stops}
 use Rattle.sheet.specs.Questions.{wellFormedAt, question2}
@@ -25,7 +25,7 @@ record-good-requires c κs = omega arith
 
 returns : tie.Need-returns Inv-loop μ-loop
 unfolding question2
-returns c = sym (all-stops _ _ (c .before .before .before .loop .i) (omega arith) (sym (c .before .record-good .ensures) ∙ not-true _ (c .if1 .taken)))
+returns c = sym (all-stops _ _ (c .before .before .before .loop .i) (omega arith) (said-no (c .before .record-good .ensures) (c .if1 .taken)))
 
 add-i : tie.Need-add-i Inv-loop μ-loop
 add-i c = omega arith
@@ -34,7 +34,7 @@ loop-less : tie.Need-loop-less Inv-loop μ-loop
 loop-less c = omega arith
 
 loop-again : tie.Need-loop-again Inv-loop μ-loop
-loop-again c = (omega arith, all-more _ _ (c .before .before .before .loop .inv .1) (sym (c .before .record-good .ensures) ∙ not-false _ (c .if1 .left)))
+loop-again c = (omega arith, all-more _ _ (c .before .before .before .loop .inv .1) (said-yes (c .before .record-good .ensures) (c .if1 .left)))
 
 returns-2 : tie.Need-returns-2 Inv-loop μ-loop
 unfolding question2

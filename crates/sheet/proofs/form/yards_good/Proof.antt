@@ -1,7 +1,7 @@
 -- `form::yards_good` meets its contract: the first test that fails decides question 3.
 use mathlib.Core.Path.{sym, _∙_}
 use native.Mathlib.Omega.{arith}
-use borrow.Author.Tests.{not-true, not-false}
+use Rattle.model.proofs.Bools.{said-no, said-yes}
 use Rattle.sheet.proofs.QuestionLaws.{no-yards, many-yards, misnumbered, well-numbered}
 use Rattle.sheet.proofs.FormLaws.{yards-le}
 use borrow.Author.Needs.{needs}
@@ -19,14 +19,15 @@ all-numbered-requires c κs = omega (arith, yards-le (c .before .before .before 
 
 returns-3 : tie.Need-returns-3
 returns-3 c = let s = c .before .before .before .before .before in
-    sym (misnumbered _ (omega arith) (omega arith) (rw (← s .pre) (sym (c .before .all-numbered .ensures) ∙ not-true _ (c .if3 .taken))))
+    sym (misnumbered _ (omega arith) (omega arith) (rw (← s .pre) (said-no (c .before .all-numbered .ensures) (c .if3 .taken))))
 
 no-yard-after-requires : tie.Need-no-yard-after-requires
 no-yard-after-requires c κs = search needs
 
 returns-4 : tie.Need-returns-4
 returns-4 c = let s = c .before .before .before .before .before .before in
-    c .no-yard-after .ensures ∙ rw (s .pre) (well-numbered _ (omega arith) (omega arith) (rw (← s .pre) (sym (c .before .before .all-numbered .ensures) ∙ not-false _ (c .before .if3 .left))))
+    c .no-yard-after .ensures ∙ rw (s .pre) (well-numbered _ (omega arith) (omega arith) (rw (← s .pre)
+    (said-yes (c .before .before .all-numbered .ensures) (c .before .if3 .left))))
 
 pub yards-good-spec : {M : Type 1} → statement M
 yards-good-spec =

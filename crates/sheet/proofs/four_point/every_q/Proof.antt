@@ -2,11 +2,11 @@
 use Rattle.model.specs.Instance.{fourPoint, fourPointQ}
 use Rattle.sheet.specs.Sheet.{instanceOf}
 use Rattle.sheet.proofs.ShapeLaws.{clients-are}
-use mathlib.Core.Path.{_≡_, sym, _∙_}
+use mathlib.Core.Path.{_≡_, sym}
 use mathlib.Core.Bool.{true}
 use Prim.Native.Nat.{_≤_, _-_}
 use native.Mathlib.Omega.{arith}
-use borrow.Author.Tests.{not-true, not-false}
+use Rattle.model.proofs.Bools.{said-no, said-yes}
 use Rattle.model.specs.Loops.{allBelow}
 use Rattle.model.proofs.LoopLaws.{all-none, all-more, all-stops}
 use Rattle.sheet.proofs.four_point.every_q.Statement.{statement}
@@ -26,7 +26,8 @@ rule-holds-requires c κs = (c .before .before .before .pre .0, c .before .befor
 
 returns : tie.Need-returns Inv-loop μ-loop
 unfolding fourPointQ
-returns c = sym (all-stops _ _ (c .before .before .before .loop .q) (omega (arith, clients-are _ _ _ (c .before .before .before .before .before .pre .0))) (sym (c .before .rule-holds .ensures) ∙ not-true _ (c .if1 .taken)))
+returns c = sym (all-stops _ _ (c .before .before .before .loop .q) (omega (arith, clients-are _ _ _ (c .before .before .before .before .before .pre .0)))
+    (said-no (c .before .rule-holds .ensures) (c .if1 .taken)))
 
 add-q : tie.Need-add-q Inv-loop μ-loop
 add-q c = omega arith
@@ -35,7 +36,7 @@ loop-less : tie.Need-loop-less Inv-loop μ-loop
 loop-less c = omega arith
 
 loop-again : tie.Need-loop-again Inv-loop μ-loop
-loop-again c = (omega arith, all-more _ _ (c .before .before .before .loop .inv .1) (sym (c .before .rule-holds .ensures) ∙ not-false _ (c .if1 .left)))
+loop-again c = (omega arith, all-more _ _ (c .before .before .before .loop .inv .1) (said-yes (c .before .rule-holds .ensures) (c .if1 .left)))
 
 returns-2 : tie.Need-returns-2 Inv-loop μ-loop
 unfolding fourPointQ
