@@ -6,22 +6,10 @@ use mathlib.Core.Bool.{Bool, true, false}
 use borrow.Author.Tests.{leb-true, leb-false, le-leb, lt-leb}
 use Rattle.model.specs.Loops.{on, sum}
 use Rattle.model.specs.Least.{any}
-use Rattle.model.specs.Instance.{Instance, fourPoint, fourPointQ, fourPointPQ, fourPointBPQ, metric, nearest, assigned, openingCost, serviceCost, totalCost}
+use Rattle.model.specs.Instance.{Instance, fourPoint, fourPointQ, fourPointPQ, fourPointBPQ, metric, Breaks, nearest, assigned, openingCost, serviceCost, totalCost}
 use Rattle.model.proofs.LoopLaws.{all-at, all-from, all-fails, all-stops}
 use Rattle.model.proofs.SumLaws.{sum-mono, sum-cong}
 use Rattle.model.proofs.LeastLaws.{Least, arg-least, arg-cong, least-at, least-le, least-cong}
-
--- what the four-point rule says of two facilities and two clients, and what breaks it
-pub record Breaks (I : Instance) : Type 0 where
-  pub a : ℕ
-  pub b : ℕ
-  pub p : ℕ
-  pub q : ℕ
-  pub a-below : a < I .facilities
-  pub b-below : b < I .facilities
-  pub p-below : p < I .clients
-  pub q-below : q < I .clients
-  pub shorter : I .service a p + I .service b p + I .service b q < I .service a q
 
 module _ (I : Instance) where
   open Instance I using (facilities as m, clients as n, opening, service, weight)

@@ -1,5 +1,5 @@
 -- An instance of uncapacitated facility location (document 000, section 3) and the costs of a set of facilities.
-use Prim.Native.Nat.{ℕ, _+_, _*_}
+use Prim.Native.Nat.{ℕ, _+_, _*_, _<_}
 use mathlib.Core.Bool.{Bool}
 use lib.Dec.{leb}
 use Rattle.model.specs.Loops.{on, allBelow, sum}
@@ -32,6 +32,18 @@ fourPointBPQ I a = allBelow (I .facilities) (fourPointPQ I a)
 -- Metric service costs: the rule for all ordered pairs of facilities and of clients (document 01, question 6).
 unfoldable pub metric : Instance → Bool
 metric I = allBelow (I .facilities) (fourPointBPQ I)
+
+-- two facilities and two clients that break the rule
+pub record Breaks (I : Instance) : Type 0 where
+  pub a : ℕ
+  pub b : ℕ
+  pub p : ℕ
+  pub q : ℕ
+  pub a-below : a < I .facilities
+  pub b-below : b < I .facilities
+  pub p-below : p < I .clients
+  pub q-below : q < I .clients
+  pub shorter : I .service a p + I .service b p + I .service b q < I .service a q
 
 -- A set of facilities is a test on numbers; what it says below `facilities` counts.
 

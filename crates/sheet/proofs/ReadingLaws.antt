@@ -4,7 +4,8 @@ use native.Mathlib.Omega.{arith}
 use mathlib.Core.Path.{_≡_, refl, sym, ap, subst, _∙_}
 use mathlib.Core.Bool.{Bool, true, false}
 use mathlib.Core.List.{List}
-use Rattle.model.proofs.CostLaws.{Breaks, not-metric, broken}
+use Rattle.model.specs.Instance.{Breaks}
+use Rattle.model.proofs.CostLaws.{not-metric, broken}
 use Rattle.sheet.specs.Answers.{Answer, accepted, refused, ask, after}
 use Rattle.sheet.specs.Sheet.{yards, farms, instanceOf}
 use Rattle.sheet.specs.Questions.{question1, question2, question3, question4, question5, question6}
