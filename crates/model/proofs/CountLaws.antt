@@ -4,15 +4,16 @@ use native.Mathlib.Nat.{le-step, lt-suc-self, not-suc-le-zero}
 use native.Mathlib.Omega.{arith}
 use mathlib.Core.Path.{_≡_, refl, sym, ap, _∙_}
 use mathlib.Core.Bool.{Bool, true, false, not, _&&_, _||_}
-use borrow.Author.Tests.{ltb-true, ltb-false, ne-eqb}
+use borrow.Author.Tests.{ltb-true, ltb-false}
 use lib.Dec.{eqb, ltb}
 use Rattle.model.specs.Loops.{on, sum}
 use Rattle.model.specs.Sets.{sumOn, count, plus, minus}
 use Rattle.model.proofs.Bools.{cases, and-left, Eq?, same, diff, test, Lt?, less, more, test<}
+use Rattle.model.proofs.TestSetLaws.{minus-in}
 use Rattle.model.proofs.SumLaws.{sum-mono, sum-cong, sum-add, sum-term, sum-one, on-or-le, on-split}
 
 -- nothing is summed over a set without members
-pub count-zero : (m : ℕ) (S : ℕ → Bool) (w : ℕ → ℕ) → count m S ≡ 0 → sum m (λ i. on (S i) (w i)) ≡ 0
+pub count-zero : (m : ℕ) (S : ℕ → Bool) (w : ℕ → ℕ) → count m S ≡ 0 → sumOn m S w ≡ 0
 unfolding sum
 count-zero zero S w h = refl
 count-zero (suc m) S w h =
@@ -92,9 +93,9 @@ sum-plus-le m o S w l =
 
 -- what a set sums to without one of its members
 pub sum-minus : (m f : ℕ) (S : ℕ → Bool) (w : ℕ → ℕ) → f < m → S f ≡ true
-    → sum m (λ i. on (minus S f i) (w i)) + w f ≡ sum m (λ i. on (S i) (w i))
+    → sumOn m (minus S f) w + w f ≡ sumOn m S w
 sum-minus m f S w l e =
-    ap (λ x. sum m (λ i. on (minus S f i) (w i)) + x) (sym (sum-one m f w l))
+    ap (λ x. sumOn m (minus S f) w + x) (sym (sum-one m f w l))
     ∙ (sym (sum-add m (λ i. on (minus S f i) (w i)) (λ i. on (eqb f i) (w i)))
     ∙ sum-cong m (λ i h. at i (eqb f i) (test f i)))
   where
@@ -108,7 +109,7 @@ count-minus m f S l e = let h = sum-minus m f S (λ i. 1) l e in omega arith
 -- two members are two
 pub count-two : (m f g : ℕ) (S : ℕ → Bool) → f < m → g < m → S f ≡ true → S g ≡ true → ¬ (f ≡ g) → 2 ≤ count m S
 count-two m f g S lf lg ef eg d =
-    let one = count-some m g (minus S f) lg (rw (ne-eqb f g d, eg)) in
+    let one = count-some m g (minus S f) lg (minus-in S f g d eg) in
     omega (arith, count-minus m f S lf ef)
 
 -- ---- the first t members of S, and the others
@@ -139,7 +140,7 @@ unfolding rest
 rest-in t S i h = and-left (S i) (not (ltb (count i S) t)) h
 
 pub sum-split : (m t : ℕ) (S : ℕ → Bool) (w : ℕ → ℕ)
-    → sum m (λ i. on (S i) (w i)) ≡ sum m (λ i. on (first t S i) (w i)) + sum m (λ i. on (rest t S i) (w i))
+    → sumOn m S w ≡ sumOn m (first t S) w + sumOn m (rest t S) w
 unfolding first rest
 sum-split m t S w =
     sum-cong m (λ i h. sym (on-split (S i) (ltb (count i S) t) (w i)))

@@ -1,8 +1,8 @@
 pub mod Bools
 pub mod LoopLaws
 pub mod SumLaws
-pub mod CountLaws
 pub mod TestSetLaws
+pub mod CountLaws
 pub mod ListingLaws
 pub mod LeastLaws
 pub mod CostLaws

@@ -4,7 +4,7 @@ use Prim.Native.Nat.{ℕ, _+_, _*_, _≤_, _<_}
 use native.Mathlib.Nat.{add-assoc, zero-add}
 use native.Mathlib.Omega.{arith}
 use mathlib.Core.Path.{_≡_, refl, ap, _∙_}
-use mathlib.Core.Bool.{Bool, true, false, cond, false≢true}
+use mathlib.Core.Bool.{true, false}
 use mathlib.Core.List.{List}
 use borrow.Author.Tests.{eqb-true, leb-true}
 use lib.ListN.{length}
@@ -20,9 +20,9 @@ use Rattle.sheet.specs.Sheet.{records, isYard, yards, hauls, farms, fee,
 use Rattle.sheet.specs.Questions.{question5, question6, amountWithin}
 use Rattle.sheet.specs.Shape.{Shape}
 use Rattle.sheet.specs.Reading.{counts, form, reading}
-use Rattle.sheet.proofs.ReadingLaws.{accepted-when}
+use Rattle.sheet.proofs.ReadingLaws.{Formed, formed, accepted-when}
 use Rattle.sheet.proofs.ShapeLaws.{row-within}
-use Rattle.sheet.proofs.FormLaws.{Formed, formed, yards-le, hauls-are, some-yards, few-yards, whole-records, well-formed, yard-numbered, no-yard-after, hauls-shared, some-farms, few-farms, haul-numbered}
+use Rattle.sheet.proofs.FormLaws.{yards-le, hauls-are, some-yards, few-yards, whole-records, well-formed, yard-numbered, no-yard-after, hauls-shared, some-farms, few-farms, haul-numbered}
 
 -- what questions 1 to 4 say of a sheet of m yards and n farms
 pub record HasForm (s : List ℕ) (m n : ℕ) : Type 0 where
@@ -49,17 +49,12 @@ yard-well-formed r e h =
     let both = rw e at h in
     (eqb-true (r .farm) 0 (and-left _ _ both), eqb-true (r .byte3) 0 (and-right (eqb (r .farm) 0) _ both))
 
-cond-both : (a b : Bool) → cond a b false ≡ true → (a ≡ true) × (b ≡ true)
-cond-both true b h = (refl, h)
-cond-both false b h = absurd (false≢true h)
-
 -- question 2 of any other record
 haul-well-formed : (r : Record) → eqb (r .kind) 0x59 ≡ false → wellFormed r ≡ true → (r .kind ≡ 0x48) × (r .byte3 ≡ 0)
 unfolding wellFormed
 haul-well-formed r e h =
     let both = rw e at h in
-    let parts = cond-both (eqb (r .kind) 0x48) (eqb (r .byte3) 0) both in
-    (eqb-true (r .kind) 0x48 (parts .0), eqb-true (r .byte3) 0 (parts .1))
+    (eqb-true (r .kind) 0x48 (and-left _ _ both), eqb-true (r .byte3) 0 (and-right (eqb (r .kind) 0x48) _ both))
 
 -- the number among the haul records of farm p's haul to yard a is below n times m
 within-hauls : (m n a p : ℕ) → a < m → p < n → p * m + a < n * m
@@ -109,8 +104,8 @@ module _ (s : List ℕ) (y : Formed s) where
 
 pub has-form : (s : List ℕ) (m n : ℕ) → form s ≡ accepted (counts m n) → HasForm s m n
 has-form s m n h =
-    let f = formed s (counts m n) h in
-    rw (ap (λ c. c .yards) (f .1), ap (λ c. c .farms) (f .1)) (form-has s (f .0))
+    let f = formed s m n h in
+    rw (← f .1, ← f .2) (form-has s (f .0))
 
 pub shape-of : {s : List ℕ} {m n : ℕ} → HasForm s m n → Shape s m n
 shape-of f =
@@ -149,8 +144,14 @@ pub accepts : (s : List ℕ) (m n : ℕ) → reading s ≡ accepted (counts m n)
 unfolding question6
 accepts s m n h =
     let w = accepted-when s m n h in
-    rw (← w .3, ← w .4)
-    (record { has = form-has s (w .0); fees = fee-within s (w .1); hauls-within = haul-within s (w .0) (w .1); is-metric = w .2 })
+    let y = w .0 in
+    rw (← w .1, ← w .2)
+    (record {
+      has = form-has s (y .well-formed);
+      fees = fee-within s (y .fifth);
+      hauls-within = haul-within s (y .well-formed) (y .fifth);
+      is-metric = y .sixth;
+    })
 
 -- the bounds that the format sets an instance
 pub record WithinBounds (I : Instance) : Type 0 where
@@ -167,15 +168,15 @@ pub record WithinBounds (I : Instance) : Type 0 where
 pub door : (s : List ℕ) (m n : ℕ) → reading s ≡ accepted (counts m n) → WithinBounds (instanceOf s)
 unfolding instanceOf question6
 door s m n h =
-    let w = accepted-when s m n h in
-    let y = w .0 in
+    let all = accepted-when s m n h .0 in
+    let y = all .well-formed in
     record {
       some-facilities = some-yards s (y .third);
       few-facilities = few-yards s (y .third);
       some-clients = some-farms s y;
       few-clients = few-farms s y;
-      opening-within = fee-within s (w .1);
-      service-within = haul-within s y (w .1);
+      opening-within = fee-within s (all .fifth);
+      service-within = haul-within s y (all .fifth);
       weight-one = λ j. refl;
-      is-metric = w .2;
+      is-metric = all .sixth;
     }

@@ -9,7 +9,7 @@ use lib.Seq.{getD-take, getD-drop, length-take-le}
 use Rattle.sheet.specs.Records.{recordOf, recordAt}
 use Rattle.sheet.specs.Answers.{accepted, refused}
 use Rattle.sheet.specs.Sheet.{haul}
-use Rattle.sheet.specs.Reading.{counts, form, stretch, farmHauls}
+use Rattle.sheet.specs.Reading.{counts, form, stretch, stretchBy, farmHauls}
 use Rattle.sheet.proofs.StretchLaws.{stretch-is}
 use Rattle.sheet.proofs.ShapeLaws.{row-within}
 use Rattle.sheet.proofs.AcceptedLaws.{HasForm, has-form}
@@ -56,12 +56,12 @@ module _ (s : List ℕ) (m n p : ℕ) (f : HasForm s m n) (below : p < n) where
 module _ (s : List ℕ) (m n p : ℕ) (h : form s ≡ accepted (counts m n)) where
   pub farm-none : n ≤ p → farmHauls s p ≡ []
   unfolding farmHauls
-  farm-none above = rw (h, le-ltb p n above)
+  farm-none above = ap (λ f. stretchBy f s p) h ∙ rw (le-ltb p n above)
 
   module _ (below : p < n) where
     pub farm-stretch : farmHauls s p ≡ stretch s m p
     unfolding farmHauls
-    farm-stretch = rw (h, lt-ltb p n below)
+    farm-stretch = ap (λ f. stretchBy f s p) h ∙ rw (lt-ltb p n below)
 
     pub farm-length : length (farmHauls s p) ≡ 8 * m
     farm-length = rw farm-stretch (stretch-length s m n p (has-form s m n h) below)
@@ -71,4 +71,4 @@ module _ (s : List ℕ) (m n p : ℕ) (h : form s ≡ accepted (counts m n)) whe
 
 pub farm-refused : (s : List ℕ) (k p : ℕ) → form s ≡ refused k → farmHauls s p ≡ []
 unfolding farmHauls
-farm-refused s k p h = rw h
+farm-refused s k p h = ap (λ f. stretchBy f s p) h

@@ -1,8 +1,8 @@
--- Laws of questions 1 to 4: which answer they give together, and what a sheet has that passes them.
+-- What a sheet has that passes questions 1 to 4, question by question.
 use Prim.Native.Nat.{ℕ, _+_, _-_, _*_, _/_, _%_, _≤_, _<_}
 use native.Mathlib.Omega.{arith}
 use mathlib.Core.Path.{_≡_, refl}
-use mathlib.Core.Bool.{Bool, true, false, _&&_}
+use mathlib.Core.Bool.{true, false, _&&_}
 use mathlib.Core.List.{List}
 use borrow.Author.Tests.{eqb-true, leb-true, not-true}
 use lib.ListN.{length}
@@ -11,58 +11,11 @@ use Rattle.model.specs.Loops.{allBelow}
 use Rattle.model.proofs.Bools.{and-left, and-right}
 use Rattle.model.proofs.LoopLaws.{leading-le, all-at}
 use Rattle.sheet.specs.Records.{recordAt, wellFormed}
-use Rattle.sheet.specs.Answers.{accepted, refused, ask}
 use Rattle.sheet.specs.Sheet.{records, isYard, yards, hauls, farms, place}
 use Rattle.sheet.specs.Questions.{question1, question2, question3, question4, wellFormedAt, numbered, noYardAfter, haulInPlace, farmInPlace}
-use Rattle.sheet.specs.Reading.{Counts, counts, form}
-
--- the four questions answered yes
-pub record Formed (s : List ℕ) : Type 0 where
-  pub first : question1 s ≡ true
-  pub second : question2 s ≡ true
-  pub third : question3 s ≡ true
-  pub fourth : question4 s ≡ true
+use Rattle.sheet.proofs.ReadingLaws.{Formed}
 
 module _ (s : List ℕ) where
-  -- ---- from the answers to the form
-
-  pub form-1 : question1 s ≡ false → form s ≡ refused 1
-  unfolding form
-  form-1 a = rw a
-
-  pub form-2 : question1 s ≡ true → question2 s ≡ false → form s ≡ refused 2
-  unfolding form
-  form-2 a b = rw (a, b)
-
-  pub form-3 : question1 s ≡ true → question2 s ≡ true → question3 s ≡ false → form s ≡ refused 3
-  unfolding form
-  form-3 a b c = rw (a, b, c)
-
-  pub form-4 : question1 s ≡ true → question2 s ≡ true → question3 s ≡ true → question4 s ≡ false → form s ≡ refused 4
-  unfolding form
-  form-4 a b c d = rw (a, b, c, d)
-
-  pub form-yes : Formed s → form s ≡ accepted (counts (yards s) (farms s))
-  unfolding form
-  form-yes y = rw (y .first, y .second, y .third, y .fourth)
-
-  -- ---- and back
-
-  pub formed : (c : Counts) → form s ≡ accepted c → Formed s × (c ≡ counts (yards s) (farms s))
-  unfolding form
-  formed c h = go (question1 s) (question2 s) (question3 s) (question4 s) refl refl refl refl h
-    where
-      go : (q1 q2 q3 q4 : Bool) → question1 s ≡ q1 → question2 s ≡ q2 → question3 s ≡ q3 → question4 s ≡ q4
-          → ask q1 1 (ask q2 2 (ask q3 3 (ask q4 4 (accepted (counts (yards s) (farms s)))))) ≡ accepted c
-          → Formed s × (c ≡ counts (yards s) (farms s))
-      go true true true true e1 e2 e3 e4 k = (record { first = e1; second = e2; third = e3; fourth = e4 }, cc)
-      go true true true false e1 e2 e3 e4 k = let z : _≡_ {A = ℕ} 0 1 = cc in absurd (omega arith)
-      go true true false q4 e1 e2 e3 e4 k = let z : _≡_ {A = ℕ} 0 1 = cc in absurd (omega arith)
-      go true false q3 q4 e1 e2 e3 e4 k = let z : _≡_ {A = ℕ} 0 1 = cc in absurd (omega arith)
-      go false q2 q3 q4 e1 e2 e3 e4 k = let z : _≡_ {A = ℕ} 0 1 = cc in absurd (omega arith)
-
-  -- ---- what the questions say
-
   pub yards-le : yards s ≤ records s
   unfolding yards
   yards-le = leading-le (isYard s) (records s)

@@ -1,9 +1,9 @@
 pub mod RecordLaws
 pub mod StretchLaws
 pub mod QuestionLaws
+pub mod ReadingLaws
 pub mod FormLaws
 pub mod ShapeLaws
-pub mod ReadingLaws
 pub mod AcceptedLaws
 pub mod FarmLaws
 pub mod MarkedCases

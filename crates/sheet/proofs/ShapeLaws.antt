@@ -1,7 +1,7 @@
 -- Laws of a sheet's shape, for loops over its farms and yards: the rows of hauls lie within the sheet, and the counts and the rule of
 -- the sheet's instance in terms of m and n.
 use Prim.Native.Nat.{ℕ, _+_, _*_, _≤_, _<_}
-use native.Mathlib.Nat.{mul-le-mul-right, add-mul}
+use native.Mathlib.Nat.{mul-le-mul, mul-le-mul-right, add-mul}
 use native.Mathlib.Omega.{arith}
 use mathlib.Core.Path.{_≡_}
 use mathlib.Core.List.{List}
@@ -10,6 +10,10 @@ use lib.Dec.{leb}
 use Rattle.model.specs.Instance.{fourPoint}
 use Rattle.sheet.specs.Sheet.{place, haul, instanceOf}
 use Rattle.sheet.specs.Shape.{Shape}
+
+-- so few farms and yards have few hauls
+pub few-hauls : (m n : ℕ) → m ≤ 32 → n ≤ 128 → n * m ≤ 4096
+few-hauls m n yards farms = omega (arith, mul-le-mul farms yards)
 
 -- row p of n rows of m records ends within them
 pub row-within : (m n p : ℕ) → p < n → p * m + m ≤ n * m

@@ -1,16 +1,10 @@
 -- Laws of a farm's stretch: the part of the sheet, or nothing.
 use Prim.Native.Nat.{ℕ, _+_, _*_, _≤_, _<_}
-use native.Mathlib.Nat.{mul-le-mul}
-use native.Mathlib.Omega.{arith}
 use mathlib.Core.Path.{_≡_}
 use mathlib.Core.List.{List, []}
 use borrow.Author.Tests.{le-leb, lt-leb, lt-ltb, le-ltb}
 use lib.ListN.{length, take, drop}
 use Rattle.sheet.specs.Reading.{stretch}
-
--- the offsets of a stretch are small
-pub small-product : (m p : ℕ) → m ≤ 32 → p < 128 → p * m ≤ 4064
-small-product m p few below = let below-127 : p ≤ 127 = omega arith in omega (arith, mul-le-mul below-127 few)
 
 module _ (s : List ℕ) (m p : ℕ) where
   pub stretch-is : m ≤ 32 → p < 128 → 8 * (m + p * m) + 8 * m ≤ length s → stretch s m p ≡ take (8 * m) (drop (8 * (m + p * m)) s)

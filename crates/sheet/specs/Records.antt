@@ -1,7 +1,7 @@
 -- The record (document 01, "The haul sheet"): byte 0 the kind, byte 1 a yard number, byte 2 a farm number, byte 3 zero,
 -- bytes 4 to 7 an amount, lowest byte first.
 use Prim.Native.Nat.{ℕ, _+_, _*_, _/_, _%_}
-use mathlib.Core.Bool.{Bool, false, cond, _&&_}
+use mathlib.Core.Bool.{Bool, cond, _&&_}
 use mathlib.Core.List.{List, [], _∷_, _++_}
 use lib.ListN.{length, getD, take, drop}
 use lib.Dec.{eqb, leb}
@@ -41,4 +41,4 @@ putAt area at r = cond (leb (at + 8) (length area)) (splice area at (bytesOf r))
 -- question 2 of one record: kind 59 or 48 hex, byte 3 zero, and byte 2 zero in a yard record
 unfoldable pub wellFormed : Record → Bool
 wellFormed r =
-    cond (eqb (r .kind) 0x59) (eqb (r .farm) 0 && eqb (r .byte3) 0) (cond (eqb (r .kind) 0x48) (eqb (r .byte3) 0) false)
+    cond (eqb (r .kind) 0x59) (eqb (r .farm) 0 && eqb (r .byte3) 0) (eqb (r .kind) 0x48 && eqb (r .byte3) 0)

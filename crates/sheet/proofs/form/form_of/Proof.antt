@@ -4,7 +4,8 @@ use mathlib.Core.Path.{sym, ap₂, _∙_}
 use Rattle.model.proofs.Bools.{said-no, said-yes}
 use Rattle.sheet.specs.Answers.{accepted}
 use Rattle.sheet.specs.Reading.{counts}
-use Rattle.sheet.proofs.FormLaws.{form-1, form-2, form-3, form-4, form-yes, some-yards, few-yards}
+use Rattle.sheet.proofs.ReadingLaws.{form-1, form-2, form-3, form-4, form-yes}
+use Rattle.sheet.proofs.FormLaws.{some-yards, few-yards}
 use borrow.Author.Needs.{needs}
 use Rattle.sheet.proofs.form.form_of.Statement.{statement}
 use Rattle.sheet.proofs.form.form_of.Tie as tie

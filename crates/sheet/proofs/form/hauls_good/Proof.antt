@@ -1,10 +1,10 @@
 -- `form::hauls_good` meets its contract: the first test that fails decides question 4.
-use native.Mathlib.Nat.{mul-le-mul}
 use mathlib.Core.Path.{_≡_, sym, _∙_}
 use native.Mathlib.Omega.{arith}
-use Prim.Native.Nat.{_*_, _≤_}
+use Prim.Native.Nat.{_*_}
 use Rattle.sheet.specs.Sheet.{yards, hauls, farms}
 use Rattle.sheet.proofs.QuestionLaws.{no-farms, many-farms, uneven, even}
+use Rattle.sheet.proofs.ShapeLaws.{few-hauls}
 use Rattle.sheet.proofs.FormLaws.{yards-le, hauls-are}
 use Rattle.sheet.proofs.form.hauls_good.Statement.{statement}
 use Rattle.sheet.proofs.form.hauls_good.Tie as tie
@@ -20,8 +20,7 @@ sub-if3 c = omega (arith, yards-le (c .before .before .before .args .sheet .now)
 
 mul-if3 : tie.Need-mul-if3
 mul-if3 c = let s = c .before .before .before in
-    let few : s .args .n ≤ 128 = omega arith in
-    omega (arith, mul-le-mul few (s .pre .2))
+    omega (arith, few-hauls (s .args .m) (s .args .n) (s .pre .2) (omega arith))
 
 returns-3 : tie.Need-returns-3
 returns-3 c = let s = c .before .before .before .before in
