@@ -12,9 +12,9 @@ use Rattle.model.specs.Search.{NoLower}
 use Rattle.model.specs.Plans.{openCost, openStart, openSearch, limitedCost, limitedStart, limitedSearch}
 use Rattle.model.proofs.SetLaws.{member-with, member-without, member-trade}
 use Rattle.model.proofs.CostLaws.{service-cong, total-cong}
-use Rattle.model.proofs.NeighbourLaws.{add-among, drop-among, swap-among, swap-among-all, moves-keep, swaps-keep}
-use Rattle.model.proofs.SearchLaws.{search-ends, search-keeps}
-use Rattle.model.proofs.PlanLaws.{open-start, limited-start}
+use Rattle.model.proofs.NeighbourLaws.{add-among, drop-among, swap-among, swap-among-all}
+use Rattle.model.proofs.SearchLaws.{search-ends}
+use Rattle.model.proofs.PlanLaws.{open-start, limited-start, open-keeps, limited-keeps}
 use Rattle.bounds.specs.Optimum.{OpenOptimum, OpenBounded, LimitedOptimum}
 use Rattle.bounds.proofs.Lists.{list-optimum-one}
 use Rattle.bounds.proofs.Theorems.{open-bound, limited-five}
@@ -61,10 +61,8 @@ module _ (I : Instance) where
       → (G : ℕ → Bool) → any m G ≡ true → OpenBounded I (member (openSearch I start .set)) G
   unfolding openSearch
   open-search-bound h start small some G some-G =
-      let kept = search-keeps (openCost I) (addDropSwap m) (λ set. (set < 2 ^ m) × (any m (member set) ≡ true))
-      (λ set x p among. moves-keep m set (p .0) x among) start (small, some) in
       let end = search-ends (openCost I) (addDropSwap m) start in
-      open-bound I h (member _) G (kept .1) some-G (open-optimum _ (end .no-lower))
+      open-bound I h (member _) G (open-keeps I start small some .1) some-G (open-optimum _ (end .no-lower))
 
   -- what the limited search ends in, from a set of k facilities, beside any rival of at most k
   pub limited-search-bound : metric I ≡ true → (k start : ℕ) → start < 2 ^ m → count m (member start) ≡ k
@@ -72,10 +70,8 @@ module _ (I : Instance) where
       → serviceCost I (member (limitedSearch I start .set)) ≤ 5 * serviceCost I G
   unfolding limitedSearch
   limited-search-bound h k start small size G some few =
-      let kept = search-keeps (limitedCost I) (swaps m) (λ set. (set < 2 ^ m) × (count m (member set) ≡ k))
-      (λ set x p among. let s = swaps-keep m set (p .0) x among in (s .0, rw (s .1) (p .1))) start (small, size) in
       let end = search-ends (limitedCost I) (swaps m) start in
-      limited-five I h k (member _) G (kept .1) some few (limited-optimum _ (end .no-lower))
+      limited-five I h k (member _) G (limited-keeps I k start small size .1) some few (limited-optimum _ (end .no-lower))
 
   -- ---- and from document 01's starts
 

@@ -1,15 +1,15 @@
 -- Laws of the costs, for callers who need not open them: the nearest facility, sets that agree, metric service costs.
 use Prim.Native.Nat.{ℕ, _+_, _*_, _≤_, _<_}
 use native.Mathlib.Nat.{mul-le-mul-left}
-use mathlib.Core.Path.{_≡_, sym, ap, ap₂}
+use mathlib.Core.Path.{_≡_, sym, ap, ap₂, _∙_}
 use mathlib.Core.Bool.{Bool, true, false}
 use borrow.Author.Tests.{leb-true, leb-false, le-leb, lt-leb}
 use Rattle.model.specs.Loops.{on, sum}
-use Rattle.model.specs.Least.{any}
+use Rattle.model.specs.Least.{any, least}
 use Rattle.model.specs.Instance.{Instance, fourPoint, fourPointQ, fourPointPQ, fourPointBPQ, metric, Breaks, nearest, assigned, openingCost, serviceCost, totalCost}
 use Rattle.model.proofs.LoopLaws.{all-at, all-from, all-fails, all-stops}
 use Rattle.model.proofs.SumLaws.{sum-mono, sum-cong}
-use Rattle.model.proofs.LeastLaws.{Least, arg-least, arg-cong, least-at, least-le, least-cong}
+use Rattle.model.proofs.LeastLaws.{Least, arg-least, arg-cong, least-at, least-le, least-cong, least-values, least-scaled}
 
 module _ (I : Instance) where
   open Instance I using (facilities as m, clients as n, opening, service, weight)
@@ -108,3 +108,22 @@ module _ (I : Instance) where
     pub total-cong : totalCost I S ≡ totalCost I T
     unfolding totalCost
     total-cong = ap₂ _+_ opening-cong service-cong
+
+-- ---- instances that agree on opening costs, and on service costs times weight, have the same costs
+
+weighted : (I : Instance) (S : ℕ → Bool) → serviceCost I S ≡ sum (I .clients) (λ j. least (I .facilities) S (λ i. I .weight j * I .service i j))
+unfolding serviceCost nearest
+weighted I S = sum-cong (I .clients) (λ j l. sym (least-scaled (I .facilities) (I .weight j) S (λ i. I .service i j)))
+
+module _ (I J : Instance) (S : ℕ → Bool) (same-m : I .facilities ≡ J .facilities) (same-n : I .clients ≡ J .clients) where
+  pub same-service : ((i j : ℕ) → i < I .facilities → j < I .clients → I .weight j * I .service i j ≡ J .weight j * J .service i j)
+      → serviceCost I S ≡ serviceCost J S
+  same-service agree =
+      weighted I S
+      ∙ sum-cong (I .clients) (λ j l. least-values S (λ i. I .weight j * I .service i j) (λ i. J .weight j * J .service i j) (I .facilities) (λ i k. agree i j k l))
+      ∙ ap₂ (λ n m. sum n (λ j. least m S (λ i. J .weight j * J .service i j))) same-n same-m ∙ sym (weighted J S)
+
+  pub same-opening : ((i : ℕ) → i < I .facilities → I .opening i ≡ J .opening i) → openingCost I S ≡ openingCost J S
+  unfolding openingCost
+  same-opening agree =
+      sum-cong (I .facilities) (λ i l. ap (on (S i)) (agree i l)) ∙ ap (λ m. sum m (λ i. on (S i) (J .opening i))) same-m

@@ -5,7 +5,7 @@ use native.Mathlib.Nat.{le-refl, le-trans, zero-add, suc-add, add-suc, add-zero}
 use native.Mathlib.Numerals.{add-one}
 use native.Mathlib.Omega.{arith}
 use native.Mathlib.Decide.{decLt}
-use mathlib.Core.Path.{_≡_, refl, sym, ap, subst, _∙_}
+use mathlib.Core.Path.{_≡_, refl, sym, ap, subst, fun-ext, _∙_}
 use mathlib.Core.Logic.{inl, inr}
 use mathlib.Core.Bool.{Bool, true, false, cond}
 use mathlib.Core.List.{List, [], _∷_, _++_, List·Memᴰ·head, Memᴰ·append-right, List·Memᴰ·cases-cons, List·Memᴰ·not-nil}
@@ -260,3 +260,8 @@ module _ (cost : ℕ → ℕ) where
         ∙ sym (descend-adds limit (cost start) start 0) ∙ fuel-enough (limit + cost start) start 0 (omega arith)
         in
         (ap (λ (r : Reached). r .set) e, ap (λ (r : Reached). r .steps) e)
+
+-- costs that agree give the same search
+pub search-cong : {c d : ℕ → ℕ} (neighbours : ℕ → List ℕ) (start : ℕ) → ((set : ℕ) → c set ≡ d set)
+    → Search.search c neighbours start ≡ Search.search d neighbours start
+search-cong neighbours start agree = ap (λ cost. Search.search cost neighbours start) (fun-ext agree)

@@ -1,7 +1,7 @@
 -- Laws of sets that are numbers: what `with` and `without` do to members and counts, and that a set is what its members say.
 -- Idea: member i + 1 of a set is member i of its half; `with` and `without` at i + 1 act on the half and keep the last bit.
 use Prim.Native.Nat.{ℕ, zero, suc, _-_, _*_, _/_, _%_, _^_, _≤_, _<_}
-use native.Mathlib.Nat.{le-refl, sub-le, mod-lt, div-one, zero-div, pow-succ', div-div-eq-div-mul, mod-eq-of-lt}
+use native.Mathlib.Nat.{le-refl, one-mul, sub-le, mod-lt, div-one, zero-div, pow-succ', div-div-eq-div-mul, mod-eq-of-lt}
 use native.Mathlib.Numerals.{one-add}
 use native.Mathlib.Omega.{arith}
 use native.Mathlib.Decide.{decLt}
@@ -9,7 +9,7 @@ use mathlib.Core.Path.{_≡_, refl, sym, ap, _∙_}
 use mathlib.Core.Bool.{Bool, true, false, not, _&&_, or-false}
 use borrow.Author.Tests.{eqb-true, eqb-false, eq-eqb, lt-ltb}
 use lib.Dec.{eqb, ltb, leb·suc-suc, leb·suc-zero, eqb·suc-suc, eqb·zero-suc, eqb·suc-zero}
-use lib.Pow.{pow-pos, pow-mono, mod-pow-add}
+use lib.Pow.{pow-pos, pow-mono, mod-pow-add, shl-exact}
 use Rattle.model.specs.Loops.{on, sum}
 use Rattle.model.specs.Least.{any, arg}
 use Rattle.model.specs.Sets.{count, plus, minus, trade, member, with, without}
@@ -170,7 +170,7 @@ member-none : (i : ℕ) → member 0 i ≡ false
 unfolding member
 member-none i = ap (λ (q : ℕ). eqb (q % 2) 1) (zero-div (2 ^ i))
 
-with-none : (i : ℕ) → with 0 i ≡ 2 ^ i
+pub with-none : (i : ℕ) → with 0 i ≡ 2 ^ i
 unfolding with
 with-none i = rw (member-none i) (omega arith)
 
@@ -188,3 +188,8 @@ member-ones (suc k) (suc i) =
 
 pub count-ones : (m k : ℕ) → k ≤ m → count m (member (2 ^ k - 1)) ≡ k
 count-ones m k l = count-cong m (member (2 ^ k - 1)) (λ i. ltb i k) (λ i h. member-ones k i) ∙ count-under m k ∙ omega arith
+
+-- ---- the bit that a shift of 1 makes, in a number of w bits
+
+pub one-shl : (w i : ℕ) → i < w → (1 * 2 ^ i) % 2 ^ w ≡ 2 ^ i
+one-shl w i below = shl-exact {a = 1} 1 i w (omega arith) (omega arith) ∙ one-mul (2 ^ i)

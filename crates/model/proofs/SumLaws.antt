@@ -21,6 +21,18 @@ pub sum-more : (f : ℕ → ℕ) (i : ℕ) → sum (i + 1) f ≡ sum i f + f i
 unfolding sum
 sum-more f i = rw add-one
 
+-- a loop's total of the first i terms of f: their sum, and at most 2 ^ 32 for each, so that a u64 holds it
+pub record Summed (f : ℕ → ℕ) (total i : ℕ) : Type 0 where
+  pub exact : total ≡ sum i f
+  pub small : total ≤ i * 4294967296
+
+module _ (f : ℕ → ℕ) where
+  pub summed-none : Summed f 0 0
+  summed-none = record { exact = sum-none f; small = omega arith }
+
+  pub summed-more : (total i x : ℕ) → Summed f total i → x ≡ f i → x ≤ 4294967296 → Summed f (total + x) (i + 1)
+  summed-more total i x h e small = record { exact = rw (h .exact, e) (sym (sum-more f i)); small = omega (arith, h .small) }
+
 -- a sum so far is at most the whole
 pub sum-prefix : (i n : ℕ) (f : ℕ → ℕ) → i ≤ n → sum i f ≤ sum n f
 unfolding sum

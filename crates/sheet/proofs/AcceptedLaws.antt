@@ -3,7 +3,7 @@
 use Prim.Native.Nat.{ℕ, _+_, _*_, _≤_, _<_}
 use native.Mathlib.Nat.{add-assoc, zero-add}
 use native.Mathlib.Omega.{arith}
-use mathlib.Core.Path.{_≡_, refl, ap, _∙_}
+use mathlib.Core.Path.{_≡_, refl, sym, ap, ap₂, _∙_}
 use mathlib.Core.Bool.{true, false}
 use mathlib.Core.List.{List}
 use borrow.Author.Tests.{eqb-true, leb-true}
@@ -16,7 +16,7 @@ use Rattle.model.proofs.LoopLaws.{leading-holds, all-at}
 use Rattle.sheet.specs.declared.record.Record.{Record}
 use Rattle.sheet.specs.Records.{recordOf, recordAt, wellFormed}
 use Rattle.sheet.specs.Answers.{accepted}
-use Rattle.sheet.specs.Sheet.{records, isYard, yards, hauls, farms, fee, place, haul, instanceOf}
+use Rattle.sheet.specs.Sheet.{records, isYard, yards, hauls, farms, fee, place, haul, instanceBy, instanceOf}
 use Rattle.sheet.specs.Questions.{question5, question6, amountWithin}
 use Rattle.sheet.specs.Shape.{Shape}
 use Rattle.sheet.specs.Reading.{counts, form, reading}
@@ -109,7 +109,16 @@ has-form s m n h =
 
 pub shape-of : {s : List ℕ} {m n : ℕ} → HasForm s m n → Shape s m n
 shape-of f =
-    record { yards-are = f .yards-are; farms-are = f .farms-are; room = omega (arith, f .long); few-yards = f .few-yards; few-farms = f .few-farms }
+    record { room = omega (arith, f .long); few-yards = f .few-yards; few-farms = f .few-farms }
+
+-- the instance read off by its counts is the sheet's own
+pub instance-is : {s : List ℕ} {m n : ℕ} → HasForm s m n → instanceBy s m n ≡ instanceOf s
+unfolding instanceOf
+instance-is {s} f = ap₂ (instanceBy s) (sym (f .yards-are)) (sym (f .farms-are))
+
+pub sixth-is : {s : List ℕ} {m n : ℕ} → HasForm s m n → metric (instanceBy s m n) ≡ question6 s
+unfolding question6
+sixth-is f = ap metric (instance-is f)
 
 -- ---- accepted sheets
 
@@ -166,7 +175,7 @@ pub record WithinBounds (I : Instance) : Type 0 where
 
 -- the door: an accepted sheet's instance is metric and within its bounds
 pub door : (s : List ℕ) (m n : ℕ) → reading s ≡ accepted (counts m n) → WithinBounds (instanceOf s)
-unfolding instanceOf question6
+unfolding instanceOf instanceBy question6
 door s m n h =
     let all = accepted-when s m n h .0 in
     let y = all .well-formed in

@@ -8,11 +8,12 @@ use lib.ListN.{length, getD, take, drop, length-drop}
 use lib.Seq.{getD-take, getD-drop, length-take-le}
 use Rattle.sheet.specs.Records.{recordOf, recordAt}
 use Rattle.sheet.specs.Answers.{accepted, refused}
-use Rattle.sheet.specs.Sheet.{haul}
+use Rattle.sheet.specs.Sheet.{place, haul}
+use Rattle.sheet.specs.Shape.{Shape}
 use Rattle.sheet.specs.Reading.{counts, form, stretch, stretchBy, farmHauls}
 use Rattle.sheet.proofs.StretchLaws.{stretch-is}
 use Rattle.sheet.proofs.ShapeLaws.{row-within}
-use Rattle.sheet.proofs.AcceptedLaws.{HasForm, has-form}
+use Rattle.sheet.proofs.AcceptedLaws.{has-form, shape-of}
 
 -- a byte of a part of the bytes, and a record of it, is that at its place in the whole
 
@@ -39,17 +40,17 @@ part-record s k m a below =
 
 -- ---- for callers that have read the sheet
 
-module _ (s : List ℕ) (m n p : ℕ) (f : HasForm s m n) (below : p < n) where
+module _ (s : List ℕ) (m n p : ℕ) (f : Shape s m n) (below : p < n) where
   part-of : stretch s m p ≡ take (8 * m) (drop (8 * (m + p * m)) s)
-  part-of = stretch-is s m p (f .few-yards) (omega (arith, f .few-farms)) (omega (arith, row-within m n p below, f .long))
+  part-of = stretch-is s m p (f .few-yards) (omega (arith, f .few-farms)) (omega (arith, row-within m n p below, f .room))
 
   pub stretch-length : length (stretch s m p) ≡ 8 * m
   stretch-length =
       rw part-of
-      (length-take-le (8 * m) (drop (8 * (m + p * m)) s) (omega (arith, length-drop (8 * (m + p * m)) s, row-within m n p below, f .long)))
+      (length-take-le (8 * m) (drop (8 * (m + p * m)) s) (omega (arith, length-drop (8 * (m + p * m)) s, row-within m n p below, f .room)))
 
-  pub stretch-record : (a : ℕ) → a < m → recordAt (stretch s m p) a ≡ recordOf 0x48 a p 0 (haul s m a p)
-  stretch-record a la = rw part-of (part-record s (m + p * m) m a la ∙ f .haul-record a p la below)
+  pub stretch-record : (a : ℕ) → a < m → recordAt (stretch s m p) a ≡ recordAt s (place m p a)
+  stretch-record a la = rw part-of (part-record s (m + p * m) m a la)
 
 -- ---- for any caller
 
@@ -64,10 +65,12 @@ module _ (s : List ℕ) (m n p : ℕ) (h : form s ≡ accepted (counts m n)) whe
     farm-stretch = ap (λ f. stretchBy f s p) h ∙ rw (lt-ltb p n below)
 
     pub farm-length : length (farmHauls s p) ≡ 8 * m
-    farm-length = rw farm-stretch (stretch-length s m n p (has-form s m n h) below)
+    farm-length = rw farm-stretch (stretch-length s m n p (shape-of (has-form s m n h)) below)
 
     pub farm-record : (a : ℕ) → a < m → recordAt (farmHauls s p) a ≡ recordOf 0x48 a p 0 (haul s m a p)
-    farm-record a la = rw farm-stretch (stretch-record s m n p (has-form s m n h) below a la)
+    farm-record a la =
+        let f = has-form s m n h in
+        rw farm-stretch (stretch-record s m n p (shape-of f) below a la ∙ f .haul-record a p la below)
 
 pub farm-refused : (s : List ℕ) (k p : ℕ) → form s ≡ refused k → farmHauls s p ≡ []
 unfolding farmHauls

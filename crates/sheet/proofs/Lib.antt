@@ -1,4 +1,5 @@
 pub mod RecordLaws
+pub mod SpliceLaws
 pub mod StretchLaws
 pub mod QuestionLaws
 pub mod ReadingLaws
@@ -6,4 +7,4 @@ pub mod FormLaws
 pub mod ShapeLaws
 pub mod AcceptedLaws
 pub mod FarmLaws
-pub mod MarkedCases
+pub mod CostBounds

@@ -1,14 +1,10 @@
--- Laws of a sheet's shape, for loops over its farms and yards: the rows of hauls lie within the sheet, and the counts and the rule of
--- the sheet's instance in terms of m and n.
+-- Laws of a sheet's shape, for loops over its farms and yards: the rows of hauls lie within the sheet.
 use Prim.Native.Nat.{ℕ, _+_, _*_, _≤_, _<_}
 use native.Mathlib.Nat.{mul-le-mul, mul-le-mul-right, add-mul}
 use native.Mathlib.Omega.{arith}
-use mathlib.Core.Path.{_≡_}
 use mathlib.Core.List.{List}
 use lib.ListN.{length}
-use lib.Dec.{leb}
-use Rattle.model.specs.Instance.{fourPoint}
-use Rattle.sheet.specs.Sheet.{place, haul, instanceOf}
+use Rattle.sheet.specs.Sheet.{place}
 use Rattle.sheet.specs.Shape.{Shape}
 
 -- so few farms and yards have few hauls
@@ -23,15 +19,3 @@ module _ (s : List ℕ) (m n : ℕ) (shape : Shape s m n) where
   -- the record of the haul from farm p to yard a lies within the sheet
   pub haul-room : (a p : ℕ) → a < m → p < n → 8 * place m p a + 8 ≤ length s
   haul-room a p yard farm = omega (arith, row-within m n p farm, shape .room)
-
-  pub rule-of : (a b p q : ℕ) → leb (haul s m a q) (haul s m a p + haul s m b p + haul s m b q) ≡ fourPoint (instanceOf s) a b p q
-  unfolding fourPoint instanceOf
-  rule-of a b p q = rw (shape .yards-are)
-
-  pub facilities-are : instanceOf s .facilities ≡ m
-  unfolding instanceOf
-  facilities-are = shape .yards-are
-
-  pub clients-are : instanceOf s .clients ≡ n
-  unfolding instanceOf
-  clients-are = shape .farms-are

@@ -39,8 +39,11 @@ place m p a = m + p * m + a
 unfoldable pub haul : List ℕ → ℕ → ℕ → ℕ → ℕ
 haul s m a p = recordAt s (place m p a) .amount
 
--- The door between format and model: yards are facilities and their fees opening costs, farms are clients and their hauls
--- service costs, and every farm counts once.
+-- The door between format and model, of a sheet with m yards and n farms: yards are facilities and their fees opening costs,
+-- farms are clients and their hauls service costs, and every farm counts once.
+unfoldable pub instanceBy : List ℕ → ℕ → ℕ → Instance
+instanceBy s m n = record { facilities = m; clients = n; opening = fee s; service = haul s m; weight = λ j. 1 }
+
+-- the instance that the sheet describes
 unfoldable pub instanceOf : List ℕ → Instance
-instanceOf s =
-    record { facilities = yards s; clients = farms s; opening = fee s; service = haul s (yards s); weight = λ j. 1 }
+instanceOf s = instanceBy s (yards s) (farms s)

@@ -1,9 +1,8 @@
 // Question 6: the four-point rule, for all ordered pairs of yards and of farms.
 ghost use mathlib.Core.Path.{_≡_};
 ghost use Prim.Native.Nat.{_<_};
-ghost use Rattle.model.specs.Instance.{fourPoint, fourPointQ, fourPointPQ, fourPointBPQ};
-ghost use Rattle.sheet.specs.Sheet.{haul, instanceOf};
-ghost use Rattle.sheet.specs.Questions.{question6};
+ghost use Rattle.model.specs.Instance.{fourPoint, fourPointQ, fourPointPQ, fourPointBPQ, metric};
+ghost use Rattle.sheet.specs.Sheet.{haul, instanceBy};
 ghost use Rattle.sheet.specs.Shape.{Shape};
 use crate::record::Record;
 
@@ -19,7 +18,7 @@ fn haul_of(sheet: &[u8], m: usize, n: usize, a: usize, p: usize) -> u64
 
 fn rule_holds(sheet: &[u8], m: usize, n: usize, a: usize, b: usize, p: usize, q: usize) -> bool
     requires { ⌜ Shape (now sheet) m n × (a < m) × (b < m) × (p < n) × (q < n) ⌝ }
-    ensures { λ r. ⌜ r ≡ fourPoint (instanceOf (now (sheet .entry))) a b p q ⌝ }
+    ensures { λ r. ⌜ r ≡ fourPoint (instanceBy (now (sheet .entry)) m n) a b p q ⌝ }
 {
     let way = haul_of(sheet, m, n, a, p) + haul_of(sheet, m, n, b, p) + haul_of(sheet, m, n, b, q);
     haul_of(sheet, m, n, a, q) <= way
@@ -27,7 +26,7 @@ fn rule_holds(sheet: &[u8], m: usize, n: usize, a: usize, b: usize, p: usize, q:
 
 fn every_q(sheet: &[u8], m: usize, n: usize, a: usize, b: usize, p: usize) -> bool
     requires { ⌜ Shape (now sheet) m n × (a < m) × (b < m) × (p < n) ⌝ }
-    ensures { λ r. ⌜ r ≡ fourPointQ (instanceOf (now (sheet .entry))) a b p ⌝ }
+    ensures { λ r. ⌜ r ≡ fourPointQ (instanceBy (now (sheet .entry)) m n) a b p ⌝ }
 {
     let mut q = 0;
     while q < n {
@@ -41,7 +40,7 @@ fn every_q(sheet: &[u8], m: usize, n: usize, a: usize, b: usize, p: usize) -> bo
 
 fn every_p(sheet: &[u8], m: usize, n: usize, a: usize, b: usize) -> bool
     requires { ⌜ Shape (now sheet) m n × (a < m) × (b < m) ⌝ }
-    ensures { λ r. ⌜ r ≡ fourPointPQ (instanceOf (now (sheet .entry))) a b ⌝ }
+    ensures { λ r. ⌜ r ≡ fourPointPQ (instanceBy (now (sheet .entry)) m n) a b ⌝ }
 {
     let mut p = 0;
     while p < n {
@@ -55,7 +54,7 @@ fn every_p(sheet: &[u8], m: usize, n: usize, a: usize, b: usize) -> bool
 
 fn every_b(sheet: &[u8], m: usize, n: usize, a: usize) -> bool
     requires { ⌜ Shape (now sheet) m n × (a < m) ⌝ }
-    ensures { λ r. ⌜ r ≡ fourPointBPQ (instanceOf (now (sheet .entry))) a ⌝ }
+    ensures { λ r. ⌜ r ≡ fourPointBPQ (instanceBy (now (sheet .entry)) m n) a ⌝ }
 {
     let mut b = 0;
     while b < m {
@@ -70,7 +69,7 @@ fn every_b(sheet: &[u8], m: usize, n: usize, a: usize) -> bool
 // Question 6, of a sheet of m yards and n farms.
 pub(crate) fn is_metric(sheet: &[u8], m: usize, n: usize) -> bool
     requires { ⌜ Shape (now sheet) m n ⌝ }
-    ensures { λ r. ⌜ r ≡ question6 (now (sheet .entry)) ⌝ }
+    ensures { λ r. ⌜ r ≡ metric (instanceBy (now (sheet .entry)) m n) ⌝ }
 {
     let mut a = 0;
     while a < m {

@@ -2,7 +2,7 @@
 ghost use mathlib.Core.Path.{_≡_};
 ghost use Prim.Native.Nat.{_+_, _*_, _≤_};
 ghost use lib.ListN.{length};
-ghost use Rattle.sheet.specs.Records.{word, recordOf, recordAt, wholeRecordAt, bytesOf, putAt, wellFormed};
+ghost use Rattle.sheet.specs.Records.{word, recordOf, recordAt, wholeRecordAt, putAt, wellFormed};
 
 pub const KIND_YARD: u8 = 0x59;
 

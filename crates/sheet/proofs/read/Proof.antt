@@ -3,7 +3,7 @@ use mathlib.Core.Path.{sym, ap, _∙_}
 use Rattle.model.proofs.Bools.{said-no, said-yes}
 use Rattle.sheet.specs.Reading.{meaning}
 use Rattle.sheet.proofs.ReadingLaws.{reading-form, reading-5, reading-6, reading-yes}
-use Rattle.sheet.proofs.AcceptedLaws.{has-form, shape-of}
+use Rattle.sheet.proofs.AcceptedLaws.{has-form, shape-of, sixth-is}
 use borrow.Author.Needs.{needs}
 use Rattle.sheet.proofs.read.Statement.{statement}
 use Rattle.sheet.proofs.read.Tie as tie
@@ -32,7 +32,7 @@ returns-2 c = let amounts = c .before .before in
     let arm = amounts .before .before .before in
     sym (reading-6 _ (sym (arm .before .before .form-of .ensures) ∙ ap meaning (arm .yards .given .1))
     (said-yes (amounts .before .amounts-good .ensures) (amounts .if1 .left))
-    (said-no (c .before .is-metric .ensures) (c .if2 .taken)))
+    (said-no (c .before .is-metric .ensures ∙ sixth-is (has-form _ _ _ (sym (arm .before .before .form-of .ensures) ∙ ap meaning (arm .yards .given .1)))) (c .if2 .taken)))
 
 enum-known-k : tie.Need-enum-known-k
 enum-known-k c = search needs
@@ -42,7 +42,7 @@ returns-3 c = let amounts = c .before .before in
     let arm = amounts .before .before .before in
     sym (reading-yes _ (sym (arm .before .before .form-of .ensures) ∙ ap meaning (arm .yards .given .1))
     (said-yes (amounts .before .amounts-good .ensures) (amounts .if1 .left))
-    (said-yes (c .before .is-metric .ensures) (c .if2 .left)))
+    (said-yes (c .before .is-metric .ensures ∙ sixth-is (has-form _ _ _ (sym (arm .before .before .form-of .ensures) ∙ ap meaning (arm .yards .given .1)))) (c .if2 .left)))
 
 returns-4 : tie.Need-returns-4
 returns-4 c = let arm = c .before in

@@ -7,13 +7,12 @@ use Rattle.model.proofs.Bools.{said-no, said-yes}
 use Rattle.model.specs.Loops.{allBelow}
 use Rattle.model.proofs.LoopLaws.{all-none, all-more, all-stops}
 use Rattle.model.specs.Instance.{fourPointPQ, fourPointBPQ}
-use Rattle.sheet.specs.Sheet.{instanceOf}
-use Rattle.sheet.proofs.ShapeLaws.{facilities-are}
+use Rattle.sheet.specs.Sheet.{instanceBy}
 use Rattle.sheet.proofs.four_point.every_b.Statement.{statement}
 use Rattle.sheet.proofs.four_point.every_b.Tie as tie
 
 abbrev Inv-loop : tie.InvT-loop
-Inv-loop sheet m n a b₀ b = (b ≤ m) × (true ≡ allBelow b (fourPointPQ (instanceOf sheet) a))
+Inv-loop sheet m n a b₀ b = (b ≤ m) × (true ≡ allBelow b (fourPointPQ (instanceBy sheet m n) a))
 
 abbrev μ-loop : tie.MeasureT-loop
 μ-loop sheet m n a b₀ b = m - b
@@ -25,8 +24,8 @@ every-p-requires : tie.Need-every-p-requires Inv-loop μ-loop
 every-p-requires c κs = (c .before .before .before .pre .0, c .before .before .before .pre .1, c .loop-test .taken)
 
 returns : tie.Need-returns Inv-loop μ-loop
-unfolding fourPointBPQ
-returns c = sym (all-stops _ _ (c .before .before .before .loop .b) (omega (arith, facilities-are _ _ _ (c .before .before .before .before .before .pre .0)))
+unfolding fourPointBPQ instanceBy
+returns c = sym (all-stops _ _ (c .before .before .before .loop .b) (omega arith)
     (said-no (c .before .every-p .ensures) (c .if1 .taken)))
 
 add-b : tie.Need-add-b Inv-loop μ-loop
@@ -39,9 +38,8 @@ loop-again : tie.Need-loop-again Inv-loop μ-loop
 loop-again c = (omega arith, all-more _ _ (c .before .before .before .loop .inv .1) (said-yes (c .before .every-p .ensures) (c .if1 .left)))
 
 returns-2 : tie.Need-returns-2 Inv-loop μ-loop
-unfolding fourPointBPQ
-returns-2 c = let b = c .before .before .before in
-    let e : c .before .loop .b ≡ instanceOf (b .args .sheet .now) .facilities = omega (arith, facilities-are _ _ _ (b .pre .0)) in
+unfolding fourPointBPQ instanceBy
+returns-2 c = let e : c .before .loop .b ≡ c .before .before .before .args .m = omega arith in
     rw e at (c .before .loop .inv .1)
 
 pub every-b-spec : {M : Type 1} → statement M

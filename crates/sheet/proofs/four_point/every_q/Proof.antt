@@ -1,7 +1,6 @@
 -- `four_point::every_q` meets its contract. The invariant: the rule holds of every q passed.
 use Rattle.model.specs.Instance.{fourPoint, fourPointQ}
-use Rattle.sheet.specs.Sheet.{instanceOf}
-use Rattle.sheet.proofs.ShapeLaws.{clients-are}
+use Rattle.sheet.specs.Sheet.{instanceBy}
 use mathlib.Core.Path.{_≡_, sym}
 use mathlib.Core.Bool.{true}
 use Prim.Native.Nat.{_≤_, _-_}
@@ -13,7 +12,7 @@ use Rattle.sheet.proofs.four_point.every_q.Statement.{statement}
 use Rattle.sheet.proofs.four_point.every_q.Tie as tie
 
 abbrev Inv-loop : tie.InvT-loop
-Inv-loop sheet m n a b p q₀ q = (q ≤ n) × (true ≡ allBelow q (fourPoint (instanceOf sheet) a b p))
+Inv-loop sheet m n a b p q₀ q = (q ≤ n) × (true ≡ allBelow q (fourPoint (instanceBy sheet m n) a b p))
 
 abbrev μ-loop : tie.MeasureT-loop
 μ-loop sheet m n a b p q₀ q = n - q
@@ -25,8 +24,8 @@ rule-holds-requires : tie.Need-rule-holds-requires Inv-loop μ-loop
 rule-holds-requires c κs = (c .before .before .before .pre .0, c .before .before .before .pre .1, c .before .before .before .pre .2, c .before .before .before .pre .3, c .loop-test .taken)
 
 returns : tie.Need-returns Inv-loop μ-loop
-unfolding fourPointQ
-returns c = sym (all-stops _ _ (c .before .before .before .loop .q) (omega (arith, clients-are _ _ _ (c .before .before .before .before .before .pre .0)))
+unfolding fourPointQ instanceBy
+returns c = sym (all-stops _ _ (c .before .before .before .loop .q) (omega arith)
     (said-no (c .before .rule-holds .ensures) (c .if1 .taken)))
 
 add-q : tie.Need-add-q Inv-loop μ-loop
@@ -39,9 +38,8 @@ loop-again : tie.Need-loop-again Inv-loop μ-loop
 loop-again c = (omega arith, all-more _ _ (c .before .before .before .loop .inv .1) (said-yes (c .before .rule-holds .ensures) (c .if1 .left)))
 
 returns-2 : tie.Need-returns-2 Inv-loop μ-loop
-unfolding fourPointQ
-returns-2 c = let b = c .before .before .before in
-    let e : c .before .loop .q ≡ instanceOf (b .args .sheet .now) .clients = omega (arith, clients-are _ _ _ (b .pre .0)) in
+unfolding fourPointQ instanceBy
+returns-2 c = let e : c .before .loop .q ≡ c .before .before .before .args .n = omega arith in
     rw e at (c .before .loop .inv .1)
 
 pub every-q-spec : {M : Type 1} → statement M

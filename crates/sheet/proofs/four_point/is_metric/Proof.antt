@@ -7,14 +7,12 @@ use Rattle.model.proofs.Bools.{said-no, said-yes}
 use Rattle.model.specs.Loops.{allBelow}
 use Rattle.model.proofs.LoopLaws.{all-none, all-more, all-stops}
 use Rattle.model.specs.Instance.{fourPointBPQ, metric}
-use Rattle.sheet.specs.Sheet.{instanceOf}
-use Rattle.sheet.specs.Questions.{question6}
-use Rattle.sheet.proofs.ShapeLaws.{facilities-are}
+use Rattle.sheet.specs.Sheet.{instanceBy}
 use Rattle.sheet.proofs.four_point.is_metric.Statement.{statement}
 use Rattle.sheet.proofs.four_point.is_metric.Tie as tie
 
 abbrev Inv-loop : tie.InvT-loop
-Inv-loop sheet m n a₀ a = (a ≤ m) × (true ≡ allBelow a (fourPointBPQ (instanceOf sheet)))
+Inv-loop sheet m n a₀ a = (a ≤ m) × (true ≡ allBelow a (fourPointBPQ (instanceBy sheet m n)))
 
 abbrev μ-loop : tie.MeasureT-loop
 μ-loop sheet m n a₀ a = m - a
@@ -26,8 +24,8 @@ every-b-requires : tie.Need-every-b-requires Inv-loop μ-loop
 every-b-requires c κs = (c .before .before .before .pre, c .loop-test .taken)
 
 returns : tie.Need-returns Inv-loop μ-loop
-unfolding question6 metric
-returns c = sym (all-stops _ _ (c .before .before .before .loop .a) (omega (arith, facilities-are _ _ _ (c .before .before .before .before .before .pre)))
+unfolding metric instanceBy
+returns c = sym (all-stops _ _ (c .before .before .before .loop .a) (omega arith)
     (said-no (c .before .every-b .ensures) (c .if1 .taken)))
 
 add-a : tie.Need-add-a Inv-loop μ-loop
@@ -40,9 +38,8 @@ loop-again : tie.Need-loop-again Inv-loop μ-loop
 loop-again c = (omega arith, all-more _ _ (c .before .before .before .loop .inv .1) (said-yes (c .before .every-b .ensures) (c .if1 .left)))
 
 returns-2 : tie.Need-returns-2 Inv-loop μ-loop
-unfolding question6 metric
-returns-2 c = let b = c .before .before .before in
-    let e : c .before .loop .a ≡ instanceOf (b .args .sheet .now) .facilities = omega (arith, facilities-are _ _ _ (b .pre)) in
+unfolding metric instanceBy
+returns-2 c = let e : c .before .loop .a ≡ c .before .before .before .args .m = omega arith in
     rw e at (c .before .loop .inv .1)
 
 pub is-metric-spec : {M : Type 1} → statement M

@@ -1,5 +1,6 @@
 -- `four_point::rule_holds` meets its contract: what the four calls ensure, in the test.
-use Rattle.sheet.proofs.ShapeLaws.{rule-of}
+use Rattle.model.specs.Instance.{fourPoint}
+use Rattle.sheet.specs.Sheet.{instanceBy}
 use borrow.Author.Needs.{needs}
 use Rattle.sheet.proofs.four_point.rule_holds.Statement.{statement}
 use Rattle.sheet.proofs.four_point.rule_holds.Tie as tie
@@ -23,8 +24,8 @@ haul-of-requires-4 : tie.Need-haul-of-requires-4
 haul-of-requires-4 c κs = search needs
 
 returns : tie.Need-returns
+unfolding fourPoint instanceBy
 returns c = rw (c .before .before .before .haul-of .ensures .0, c .before .before .haul-of2 .ensures .0, c .before .haul-of3 .ensures .0, c .haul-of4 .ensures .0)
-    (rule-of _ _ _ (c .before .before .before .before .before .pre .0) _ _ _ _)
 
 pub rule-holds-spec : {M : Type 1} → statement M
 rule-holds-spec =

@@ -1,0 +1,82 @@
+// Reads one sheet from standard input and prints its open plan, or the number of the question that refuses it.
+use libc::STDERR_FILENO;
+use libc::STDIN_FILENO;
+use libc::STDOUT_FILENO;
+use price::KIND_FARM;
+use price::KIND_MOVES;
+use price::KIND_OPEN;
+use price::KIND_TOTAL;
+use price::Planned;
+use sheet::Record;
+
+fn text(bytes: &[u8]) {
+    io::write_all(STDOUT_FILENO, bytes);
+}
+
+// A number after a word or another number.
+fn number(n: u64) {
+    text(b" ");
+    io::print_decimal(STDOUT_FILENO, n);
+}
+
+// A yard with its fee; a farm, its yard, its haul; the total; the moves.
+fn print_record(record: Record) {
+    let kind = record.kind;
+    match kind {
+        KIND_OPEN => {
+            text(b"open");
+            number(record.yard as u64);
+        }
+        KIND_FARM => {
+            text(b"farm");
+            number(record.farm as u64);
+            number(record.yard as u64);
+        }
+        KIND_TOTAL => text(b"total"),
+        KIND_MOVES => text(b"moves"),
+        _ => return,
+    }
+    number(record.amount as u64);
+    text(b"\n");
+}
+
+fn print_plan(area: &[u8], bytes: usize) {
+    let n = bytes / Record::LEN;
+    let mut i = 0;
+    while i < n {
+        print_record(Record::at(area, i));
+        i += 1;
+    }
+}
+
+fn print_refusal(k: u8) {
+    text(b"refused");
+    number(k as u64);
+    text(b"\n");
+}
+
+fn plan_of(sheet: &[u8]) {
+    // The records of 32 yards, 128 farms, the total and the moves.
+    let mut area = [0u8; 1296];
+    match search::open_plan(sheet, &mut area) {
+        Planned::Written { bytes, moves: _ } => print_plan(&area, bytes),
+        Planned::Refused(k) => print_refusal(k),
+    }
+}
+
+// Has the input come to its end? A read that fails is no end: a sheet cut short could pass for another sheet.
+fn at_end() -> bool {
+    let mut more = [0u8; 1];
+    libc::read(STDIN_FILENO, &mut more) == 0
+}
+
+fn main() {
+    // One byte more than the longest sheet, so that a longer one is refused and not cut.
+    let mut input = [0u8; 33025];
+    let n = io::read_full(STDIN_FILENO, &mut input);
+    if n < 33025 && !at_end() {
+        io::write_all(STDERR_FILENO, b"plan: the sheet could not be read\n");
+        return;
+    }
+    plan_of(&input[..n]);
+}

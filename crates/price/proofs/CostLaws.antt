@@ -1,0 +1,30 @@
+-- Laws of costs on a sheet: the sums that the loops over yards and farms compute are those of the sheet's instance.
+use Prim.Native.Nat.{ℕ, _<_}
+use native.Mathlib.Nat.{one-mul}
+use native.Mathlib.Omega.{arith}
+use mathlib.Core.Path.{_≡_, refl, sym, ap, _∙_}
+use mathlib.Core.Bool.{Bool}
+use mathlib.Core.List.{List}
+use Rattle.model.specs.Loops.{on, sum}
+use Rattle.model.specs.Instance.{nearest, openingCost, serviceCost}
+use Rattle.model.proofs.SumLaws.{sum-cong}
+use Rattle.sheet.specs.declared.record.Record.{Record}
+use Rattle.sheet.specs.Records.{wholeRecordAt}
+use Rattle.sheet.specs.Sheet.{fee, instanceBy}
+use Rattle.sheet.specs.Shape.{Shape}
+use Rattle.sheet.proofs.RecordLaws.{whole}
+
+module _ (s : List ℕ) (m n : ℕ) where
+  -- the record of yard i lies within the sheet, and its amount is the fee
+  pub yard-fee : Shape s m n → (i : ℕ) → i < m → (r : Record) → r ≡ wholeRecordAt s i → r .amount ≡ fee s i
+  unfolding fee
+  yard-fee f i below r e = ap (λ (x : Record). x .amount) (e ∙ whole s i (omega (arith, f .room)))
+
+  pub fees-sum : (S : ℕ → Bool) → sum m (λ i. on (S i) (fee s i)) ≡ openingCost (instanceBy s m n) S
+  unfolding openingCost instanceBy
+  fees-sum S = refl
+
+  -- every farm counts once
+  pub hauls-sum : (S : ℕ → Bool) → sum n (nearest (instanceBy s m n) S) ≡ serviceCost (instanceBy s m n) S
+  unfolding serviceCost instanceBy
+  hauls-sum S = sum-cong n (λ j l. sym (one-mul (nearest (instanceBy s m n) S j)))

@@ -1,0 +1,230 @@
+-- Laws of a plan's records: what each is on a sheet, how long the parts are, when a plan is written at all, and that three writes
+-- in a row write it.
+use Prim.Native.Nat.{ℕ, zero, suc, _+_, _*_, _/_, _≤_, _<_}
+use native.Mathlib.Omega.{arith}
+use mathlib.Core.Path.{_≡_, refl, sym, ap, _∙_}
+use mathlib.Core.Bool.{Bool, true, false, _&&_}
+use mathlib.Core.List.{List, [], _++_, append-assoc}
+use borrow.Author.Tests.{le-leb, lt-leb, leb-true}
+use lib.ListN.{length, length-append}
+use lib.Dec.{leb}
+use Rattle.model.specs.Loops.{on, sum, join}
+use Rattle.model.specs.Sets.{count, member}
+use Rattle.model.specs.Instance.{Instance, nearest, assigned}
+use Rattle.model.proofs.Bools.{cases, and-left, and-right}
+use Rattle.model.proofs.SumLaws.{sum-bound, on-le}
+use Rattle.sheet.specs.Records.{recordOf, recordAt, wholeRecordAt, bytesOf, splice}
+use Rattle.sheet.specs.declared.record.Record.{Record}
+use Rattle.sheet.specs.Sheet.{fee, instanceBy}
+use Rattle.sheet.specs.Shape.{Shape}
+use Rattle.sheet.specs.Reading.{stretch}
+use Rattle.sheet.proofs.RecordLaws.{whole}
+use Rattle.sheet.proofs.ShapeLaws.{few-hauls}
+use Rattle.sheet.proofs.SpliceLaws.{length-bytes}
+use Rattle.price.specs.declared.nearest.Nearest.{Nearest}
+use Rattle.price.specs.Nearest.{nearestOn}
+use Rattle.price.specs.Plan.{openRecord, farmRecord, totalRecord, movesRecord, planBytes, question9, planFits, writing}
+use Rattle.price.proofs.NearestLaws.{farm-haul, farm-yard, farm-yard-small}
+use Rattle.price.proofs.WriteLaws.{splice-three}
+
+-- ---- the parts
+
+module _ (I : Instance) (set : ℕ) where
+  pub open-shut : (i : ℕ) → member set i ≡ false → openRecord I set i ≡ []
+  unfolding openRecord
+  open-shut i e = rw e
+
+  pub open-lit : (i : ℕ) → member set i ≡ true → openRecord I set i ≡ bytesOf (recordOf 0x4F i 0 0 (I .opening i))
+  unfolding openRecord
+  open-lit i e = rw e
+
+  open-length : (i : ℕ) → length (openRecord I set i) ≡ 8 * on (member set i) 1
+  open-length i =
+      cases (member set i)
+      (λ e. ap length (open-lit i e) ∙ length-bytes (recordOf 0x4F i 0 0 (I .opening i)) ∙ ap (λ (b : Bool). 8 * on b 1) (sym e))
+      (λ e. ap length (open-shut i e) ∙ ap (λ (b : Bool). 8 * on b 1) (sym e))
+
+  pub open-short : (i : ℕ) → length (openRecord I set i) ≤ 8
+  open-short i = omega (arith, open-length i, on-le (member set i) 1)
+
+  farm-length : (j : ℕ) → length (farmRecord I set j) ≡ 8
+  unfolding farmRecord
+  farm-length j = length-bytes (recordOf 0x41 (assigned I (member set) j) j 0 (nearest I (member set) j))
+
+  pub farm-short : (j : ℕ) → length (farmRecord I set j) ≤ 8
+  farm-short j = omega (arith, farm-length j)
+
+  pub opens-length : (m : ℕ) → length (join m (openRecord I set)) ≡ 8 * count m (member set)
+  unfolding join sum
+  opens-length zero = refl
+  opens-length (suc m) =
+      omega (arith, length-append (join m (openRecord I set)) (openRecord I set m), opens-length m, open-length m)
+
+  pub farms-length : (n : ℕ) → length (join n (farmRecord I set)) ≡ 8 * n
+  unfolding join
+  farms-length zero = refl
+  farms-length (suc n) =
+      omega (arith, length-append (join n (farmRecord I set)) (farmRecord I set n), farms-length n, farm-length n)
+
+count-le : (m : ℕ) (S : ℕ → Bool) → count m S ≤ m
+count-le m S = omega (arith, sum-bound m 1 (λ i. on (S i) 1) (λ i l. on-le (S i) 1))
+
+-- ---- the parts of a sheet's plan
+
+module _ (s : List ℕ) (m n set : ℕ) where
+  -- an open yard's record has the amount of the yard's record on the sheet
+  pub open-on : Shape s m n → (i : ℕ) → i < m → member set i ≡ true → (r : Record) → r ≡ wholeRecordAt s i
+      → openRecord (instanceBy s m n) set i ≡ bytesOf (recordOf 0x4F i 0 0 (r .amount))
+  unfolding instanceBy fee
+  open-on shape i l e r h =
+      let on-sheet : r ≡ recordAt s i = h ∙ whole s i (omega (arith, shape .room)) in
+      open-lit (instanceBy s m n) set i e ∙ ap (λ (x : Record). bytesOf (recordOf 0x4F i 0 0 (x .amount))) (sym on-sheet)
+
+  -- a farm's record has the yard and the haul that are nearest on the farm's stretch
+  pub farm-on : Shape s m n → (p : ℕ) → p < n → (hauls : List ℕ) (r : Nearest) → hauls ≡ stretch s m p → r ≡ nearestOn hauls set
+      → (farmRecord (instanceBy s m n) set p ≡ bytesOf (recordOf 0x41 (r .yard) p 0 (r .haul))) × (r .yard ≤ 32)
+  unfolding farmRecord
+  farm-on shape p l hauls r part e =
+      rw (e, part) (
+        rw (farm-yard s m n p shape l set, farm-haul s m n p shape l set),
+        farm-yard-small s m n p shape l set,
+      )
+
+  -- the yards' records, the farms' and the last two
+  pub plan-parts : (total moves : ℕ) → planBytes (instanceBy s m n) set total moves
+      ≡ join m (openRecord (instanceBy s m n) set) ++ join n (farmRecord (instanceBy s m n) set)
+      ++ (bytesOf (recordOf 0x54 (count m (member set)) n 0 total) ++ movesRecord moves)
+  unfolding instanceBy planBytes totalRecord
+  plan-parts total moves =
+      append-assoc (join m (openRecord (instanceBy s m n) set) ++ join n (farmRecord (instanceBy s m n) set))
+      (bytesOf (recordOf 0x54 (count m (member set)) n 0 total)) (movesRecord moves)
+
+moves-length : (moves : ℕ) → length (movesRecord moves) ≡ 8
+unfolding movesRecord
+moves-length moves = length-bytes (recordOf 0x4D 0 0 0 moves)
+
+pub end-length : (yards farms total moves : ℕ) → length (bytesOf (recordOf 0x54 yards farms 0 total) ++ movesRecord moves) ≡ 16
+end-length yards farms total moves =
+    length-append (bytesOf (recordOf 0x54 yards farms 0 total)) (movesRecord moves)
+    ∙ omega (arith, length-bytes (recordOf 0x54 yards farms 0 total), moves-length moves)
+
+pub plan-length : (I : Instance) (set total moves : ℕ)
+    → length (planBytes I set total moves) ≡ 8 * (count (I .facilities) (member set) + I .clients + 2)
+unfolding planBytes totalRecord
+plan-length I set total moves =
+    let opens = join (I .facilities) (openRecord I set) in
+    let farms = join (I .clients) (farmRecord I set) in
+    let total-record = bytesOf (recordOf 0x54 (count (I .facilities) (member set)) (I .clients) 0 total) in
+    omega (
+      arith,
+      length-append (opens ++ farms ++ total-record) (movesRecord moves),
+      length-append (opens ++ farms) total-record,
+      length-append opens farms,
+      opens-length I set (I .facilities),
+      farms-length I set (I .clients),
+      length-bytes (recordOf 0x54 (count (I .facilities) (member set)) (I .clients) 0 total),
+      moves-length moves,
+    )
+
+-- ---- question 9
+
+module _ (m n room : ℕ) where
+  pub many-yards : 32 < m → planFits m n room ≡ false
+  unfolding planFits
+  many-yards h = rw (lt-leb m 32 h)
+
+  pub many-farms : m ≤ 32 → 128 < n → planFits m n room ≡ false
+  unfolding planFits
+  many-farms f h = rw (le-leb m 32 f, lt-leb n 128 h)
+
+  -- within the bounds it is question 9
+  pub fits-within : m ≤ 32 → n ≤ 128 → planFits m n room ≡ question9 m n room
+  unfolding planFits
+  fits-within f g = rw (le-leb m 32 f, le-leb n 128 g)
+
+  -- what an area that the plan fits has
+  pub record Fits : Type 0 where
+    pub few-yards : m ≤ 32
+    pub few-farms : n ≤ 128
+    pub enough : 8 * (m + n + 2) ≤ room
+
+  pub fits-says : planFits m n room ≡ true → Fits
+  unfolding planFits question9
+  fits-says h =
+      let rest = leb n 128 && question9 m n room in
+      let others : rest ≡ true = and-right (leb m 32) rest h in
+      record {
+        few-yards = leb-true m 32 (and-left (leb m 32) rest h);
+        few-farms = leb-true n 128 (and-left (leb n 128) (question9 m n room) others);
+        enough = leb-true (8 * (m + n + 2)) room (and-right (leb n 128) (question9 m n room) others);
+      }
+
+  -- the records of a sheet with so many yards and farms are few
+  pub few-records : planFits m n room ≡ true → m + n * m ≤ 4128
+  few-records h = let f = fits-says h in omega (arith, f .few-yards, few-hauls m n (f .few-yards) (f .few-farms))
+
+  pub fits-shape : (s : List ℕ) → planFits m n room ≡ true → 8 * (m + n * m) ≤ length s → Shape s m n
+  fits-shape s h enough = let f = fits-says h in record { room = enough; few-yards = f .few-yards; few-farms = f .few-farms }
+
+-- ---- what is written
+
+module _ (s : List ℕ) (m n set total moves room : ℕ) where
+  pub writes-none : planFits m n room ≡ false → writing s m n set total moves room ≡ []
+  unfolding writing
+  writes-none h = rw h
+
+  module _ (fits : planFits m n room ≡ true) where
+    pub writes-short : length s < 8 * (m + n * m) → writing s m n set total moves room ≡ []
+    unfolding writing
+    writes-short h = rw (fits, lt-leb (8 * (m + n * m)) (length s) h)
+
+    pub writes-plan : 8 * (m + n * m) ≤ length s → writing s m n set total moves room ≡ planBytes (instanceBy s m n) set total moves
+    unfolding writing
+    writes-plan h = rw (fits, le-leb (8 * (m + n * m)) (length s) h)
+
+-- ---- the three writes of a plan that fits
+
+module _ (s : List ℕ) (m n set room : ℕ) (fits : planFits m n room ≡ true) (from : ℕ)
+    (e : from ≡ length (join m (openRecord (instanceBy s m n) set))) where
+  eights : from ≡ 8 * count m (member set)
+  eights = e ∙ opens-length (instanceBy s m n) set m
+
+  rest-room : from + 8 * n + 16 ≤ room
+  rest-room = omega (arith, eights, count-le m (member set), fits-says m n room fits .enough)
+
+  -- where the yards' records end: so many yards are open, and the farms' records have room
+  pub open-yards : from / 8 ≡ count m (member set)
+  open-yards = omega (arith, eights)
+
+  pub few-open : from / 8 ≤ 32
+  few-open = omega (arith, open-yards, count-le m (member set), fits-says m n room fits .few-yards)
+
+  pub farms-room : from + 8 * n ≤ room
+  farms-room = omega (arith, rest-room)
+
+  -- where the farms' records end, the last two have room
+  pub end-room : (to : ℕ) → to ≡ from + length (join n (farmRecord (instanceBy s m n) set)) → to + 16 ≤ room
+  end-room to h = omega (arith, h, rest-room, farms-length (instanceBy s m n) set n)
+
+pub writes-all : (s : List ℕ) (m n set total moves : ℕ) (area₀ area₁ area₂ area₃ : List ℕ) (from to end : ℕ)
+    → planFits m n (length area₀) ≡ true → 8 * (m + n * m) ≤ length s
+    → from ≡ length (join m (openRecord (instanceBy s m n) set))
+    → area₁ ≡ splice area₀ 0 (join m (openRecord (instanceBy s m n) set))
+    → to ≡ from + length (join n (farmRecord (instanceBy s m n) set))
+    → area₂ ≡ splice area₁ from (join n (farmRecord (instanceBy s m n) set))
+    → end ≡ to + 16
+    → area₃ ≡ splice area₂ to (bytesOf (recordOf 0x54 (from / 8) n 0 total) ++ movesRecord moves)
+    → (end ≡ length (writing s m n set total moves (length area₀)))
+    × (area₃ ≡ splice area₀ 0 (writing s m n set total moves (length area₀)))
+writes-all s m n set total moves area₀ area₁ area₂ area₃ from to end fits enough e₁ put₁ e₂ put₂ e₃ put₃ =
+    let opens = join m (openRecord (instanceBy s m n) set) in
+    let farms = join n (farmRecord (instanceBy s m n) set) in
+    let last = bytesOf (recordOf 0x54 (from / 8) n 0 total) ++ movesRecord moves in
+    let parts : writing s m n set total moves (length area₀) ≡ opens ++ farms ++ last =
+    writes-plan s m n set total moves (length area₀) fits enough
+    ∙ rw (open-yards s m n set (length area₀) fits from e₁) (plan-parts s m n set total moves) in
+    rw parts (
+      omega (arith, length-append (opens ++ farms) last, length-append opens farms, end-length (from / 8) n total moves),
+      splice-three area₀ area₁ area₂ area₃ opens farms last from to
+          (omega (arith, end-room s m n set (length area₀) fits from e₁ to e₂)) put₁ e₁ put₂ e₂ put₃,
+    )

@@ -1,0 +1,100 @@
+-- Laws of the calls that write a plan: what each answers and leaves in the area, and the cases of pricing.
+use Prim.Native.Nat.{ℕ, _^_, _<_}
+use native.Mathlib.Omega.{arith}
+use mathlib.Core.Path.{_≡_, refl, ap, ap₂, _∙_}
+use mathlib.Core.Bool.{true, false}
+use mathlib.Core.List.{List}
+use borrow.Author.Tests.{leb-true, ltb-true}
+use lib.ListN.{length}
+use lib.Dec.{leb}
+use Rattle.model.specs.Least.{any}
+use Rattle.model.specs.Sets.{member}
+use Rattle.model.specs.Instance.{totalCost}
+use Rattle.model.proofs.Bools.{and-left, and-right}
+use Rattle.model.proofs.SetLaws.{some-member}
+use Rattle.sheet.specs.Records.{splice}
+use Rattle.sheet.specs.Answers.{Answer, accepted, refused}
+use Rattle.sheet.specs.Sheet.{instanceBy, instanceOf}
+use Rattle.sheet.specs.Shape.{Shape}
+use Rattle.sheet.specs.Reading.{counts, reading}
+use Rattle.sheet.proofs.AcceptedLaws.{shape-of, instance-is, accepts, door}
+use Rattle.sheet.proofs.CostBounds.{total-fits}
+use Rattle.price.specs.Plan.{planBytes, question9, writing}
+use Rattle.price.specs.Pricing.{Result, result, Plan, plan, answer, areaAfter, question8, pricing}
+use Rattle.price.proofs.PlanLaws.{fits-within, writes-plan}
+
+-- ---- what a call answers and leaves: its number and the area as it was, or the plan at the area's front
+
+module _ (outcome : Answer Plan) (area : List ℕ) where
+  pub refuses : (k : ℕ) → outcome ≡ refused k → (refused k ≡ answer outcome) × (area ≡ areaAfter outcome area)
+  unfolding answer areaAfter
+  refuses k e = rw e (refl, refl)
+
+  pub makes : (p : Plan) (next : List ℕ) (bytes moves : ℕ) → outcome ≡ accepted p → bytes ≡ length (p .bytes) → moves ≡ p .moves
+      → next ≡ splice area 0 (p .bytes) → (accepted (result bytes moves) ≡ answer outcome) × (next ≡ areaAfter outcome area)
+  unfolding answer areaAfter
+  makes p next bytes moves e b v put = rw (e, b, v, put) (refl, refl)
+
+-- ---- and back: a call that answers with bytes and moves made a plan of them
+
+pub answered : (outcome : Answer Plan) (r : Result) → accepted r ≡ answer outcome
+    → (p : Plan) × (outcome ≡ accepted p) × (r ≡ result (length (p .bytes)) (p .moves))
+unfolding answer
+answered (accepted p) r h = (p, refl, cc)
+answered (refused k) r h = let z : _≡_ {A = ℕ} 0 1 = cc in absurd (omega arith)
+
+-- ---- question 8 in readable form: some yard below m is marked, and no other
+
+pub marked : (m set : ℕ) → question8 m set ≡ true → (set < 2 ^ m) × (any m (member set) ≡ true)
+unfolding question8
+marked m set h =
+    let some = leb-true 1 set (and-left _ _ h) in
+    let small = ltb-true set (2 ^ m) (and-right (leb 1 set) _ h) in
+    (small, some-member m set small some)
+
+-- ---- the cases of pricing
+
+module _ (s : List ℕ) (set room : ℕ) where
+  pub unread : (k : ℕ) → reading s ≡ refused k → pricing s set room ≡ refused k
+  unfolding pricing
+  unread k e = rw e
+
+  module _ (m n : ℕ) (e : reading s ≡ accepted (counts m n)) where
+    pub badly-marked : question8 m set ≡ false → pricing s set room ≡ refused 8
+    unfolding pricing
+    badly-marked q = rw (e, q)
+
+    pub no-room : question8 m set ≡ true → question9 m n room ≡ false → pricing s set room ≡ refused 9
+    unfolding pricing
+    no-room q h = rw (e, q, h)
+
+    pub priced-plan : question8 m set ≡ true → question9 m n room ≡ true
+        → pricing s set room ≡ accepted (plan (instanceOf s) set (totalCost (instanceOf s) (member set)) 0)
+    unfolding pricing
+    priced-plan q h = rw (e, q, h)
+
+-- ---- what the writer leaves, of a sheet and an area that are long enough
+
+pub writes-of : (s : List ℕ) (m n set total moves room : ℕ) → Shape s m n → question9 m n room ≡ true
+    → writing s m n set total moves room ≡ planBytes (instanceBy s m n) set total moves
+writes-of s m n set total moves room f q =
+    writes-plan s m n set total moves room (fits-within m n room (f .few-yards) (f .few-farms) ∙ q) (f .room)
+
+module _ (s : List ℕ) (m n set total : ℕ) (e : reading s ≡ accepted (counts m n)) (t : total ≡ totalCost (instanceBy s m n) (member set)) where
+  total-is : total ≡ totalCost (instanceOf s) (member set)
+  total-is = t ∙ ap (λ I. totalCost I (member set)) (instance-is (accepts s m n e .has))
+
+  -- a full cost fits an amount
+  pub total-small : total < 2 ^ 32
+  total-small = rw total-is (total-fits (instanceOf s) (door s m n e) (member set))
+
+  -- pricing that passes its questions writes the plan of the set
+  pub prices : (area next : List ℕ) (bytes : ℕ) → question8 m set ≡ true → question9 m n (length area) ≡ true
+      → bytes ≡ length (writing s m n set total 0 (length area)) → next ≡ splice area 0 (writing s m n set total 0 (length area))
+      → (accepted (result bytes 0) ≡ answer (pricing s set (length area))) × (next ≡ areaAfter (pricing s set (length area)) area)
+  prices area next bytes q h long put =
+      let form = accepts s m n e .has in
+      let is = writes-of s m n set total 0 (length area) (shape-of form) h
+      ∙ ap₂ (λ I x. planBytes I set x 0) (instance-is form) total-is in
+      makes (pricing s set (length area)) area _ next bytes 0 (priced-plan s set (length area) m n e q h)
+      (long ∙ ap length is) refl (put ∙ ap (splice area 0) is)

@@ -1,0 +1,30 @@
+-- `plan_fits` meets its contract: each branch is a case of `planFits`.
+use mathlib.Core.Path.{sym}
+use Rattle.price.specs.Plan.{question9}
+use Rattle.price.proofs.PlanLaws.{many-yards, many-farms, fits-within}
+use borrow.Author.Needs.{needs}
+use Rattle.price.proofs.plan.plan_fits.Statement.{statement}
+use Rattle.price.proofs.plan.plan_fits.Tie as tie
+
+returns : tie.Need-returns
+returns c = sym (many-yards _ _ _ (c .if1 .taken))
+
+returns-2 : tie.Need-returns-2
+returns-2 c = sym (many-farms _ _ _ (c .before .if1 .left) (c .if2 .taken))
+
+add-result : tie.Need-add-result
+add-result c = search needs
+
+add-result-2 : tie.Need-add-result-2
+add-result-2 c = search needs
+
+mul-result : tie.Need-mul-result
+mul-result c = search needs
+
+returns-3 : tie.Need-returns-3
+unfolding question9
+returns-3 c = sym (fits-within _ _ _ (c .before .if1 .left) (c .if2 .left))
+
+pub plan-fits-spec : {M : Type 1} → statement M
+plan-fits-spec =
+    tie.close (tie.spec returns returns-2 add-result add-result-2 mul-result returns-3)

@@ -1,0 +1,4 @@
+-- Nearest: a farm's nearest open yard. Plan: the records of a plan. Pricing: questions 8 and 9, and what pricing answers and writes.
+pub mod Nearest
+pub mod Plan
+pub mod Pricing

@@ -1,0 +1,54 @@
+-- The plan area (document 01): the records of a plan, where they are written, and how its yards are read off again.
+use Prim.Native.Nat.{ℕ, _+_, _*_, _/_, _^_}
+use mathlib.Core.Bool.{Bool, cond, _&&_}
+use mathlib.Core.List.{List, [], _++_}
+use lib.ListN.{length}
+use lib.Dec.{eqb, leb}
+use Rattle.model.specs.Loops.{on, sum, join}
+use Rattle.model.specs.Least.{any}
+use Rattle.model.specs.Sets.{count, member}
+use Rattle.model.specs.Instance.{Instance, nearest, assigned}
+use Rattle.sheet.specs.Records.{recordOf, recordAt, bytesOf}
+use Rattle.sheet.specs.Sheet.{instanceBy}
+
+-- "One of kind 4F hex for each open yard by number (byte 1 yard, amount its fee)."
+unfoldable pub openRecord : Instance → ℕ → ℕ → List ℕ
+openRecord I set i = cond (member set i) (bytesOf (recordOf 0x4F i 0 0 (I .opening i))) []
+
+-- "One of kind 41 hex for each farm by number (byte 1 its yard, byte 2 the farm, amount its haul)."
+unfoldable pub farmRecord : Instance → ℕ → ℕ → List ℕ
+farmRecord I set j = bytesOf (recordOf 0x41 (assigned I (member set) j) j 0 (nearest I (member set) j))
+
+-- "One of kind 54 hex (byte 1 the count of open yards, byte 2 n, amount the total)."
+unfoldable pub totalRecord : Instance → ℕ → ℕ → List ℕ
+totalRecord I set total = bytesOf (recordOf 0x54 (count (I .facilities) (member set)) (I .clients) 0 total)
+
+-- "One of kind 4D hex (amount the moves made)."
+unfoldable pub movesRecord : ℕ → List ℕ
+movesRecord moves = bytesOf (recordOf 0x4D 0 0 0 moves)
+
+-- "Records as above, in this order."
+unfoldable pub planBytes : Instance → ℕ → ℕ → ℕ → List ℕ
+planBytes I set total moves =
+    join (I .facilities) (openRecord I set) ++ join (I .clients) (farmRecord I set) ++ totalRecord I set total ++ movesRecord moves
+
+-- 9. Is the lent plan area at least 8 × (m + n + 2) bytes?
+unfoldable pub question9 : ℕ → ℕ → ℕ → Bool
+question9 m n room = leb (8 * (m + n + 2)) room
+
+-- the same, for counts that need not be those of an accepted sheet
+unfoldable pub planFits : ℕ → ℕ → ℕ → Bool
+planFits m n room = leb m 32 && (leb n 128 && question9 m n room)
+
+-- the plan of a set on a sheet of m yards and n farms; nothing where the sheet has not so many records or the plan does not fit
+unfoldable pub writing : List ℕ → ℕ → ℕ → ℕ → ℕ → ℕ → ℕ → List ℕ
+writing s m n set total moves room =
+    cond (planFits m n room && leb (8 * (m + n * m)) (length s)) (planBytes (instanceBy s m n) set total moves) []
+
+-- "Ours is the yards in the plan's records of kind 4F": is record i of the area one for this yard
+unfoldable pub opensAt : List ℕ → ℕ → ℕ → Bool
+opensAt area yard i = eqb (recordAt area i .kind) 0x4F && eqb (recordAt area i .yard) yard
+
+-- the yards in the records of kind 4F among so many bytes written, as a set
+unfoldable pub planSet : List ℕ → ℕ → ℕ
+planSet area bytes = sum 32 (λ yard. on (any (bytes / 8) (opensAt area yard)) (2 ^ yard))

@@ -1,0 +1,57 @@
+-- What the calls that write a plan answer and leave in the area, and what pricing a set gives.
+use Prim.Native.Nat.{ℕ, _^_}
+use mathlib.Core.Bool.{Bool, _&&_}
+use mathlib.Core.List.{List}
+use lib.ListN.{length}
+use lib.Dec.{leb, ltb}
+use Rattle.model.specs.Sets.{member}
+use Rattle.model.specs.Instance.{Instance, totalCost}
+use Rattle.sheet.specs.Records.{splice}
+use Rattle.sheet.specs.Answers.{Answer, accepted, refused, ask, after}
+use Rattle.sheet.specs.Sheet.{instanceOf}
+use Rattle.sheet.specs.Reading.{reading}
+use Rattle.price.specs.Plan.{planBytes, question9}
+use Rattle.price.specs.declared.Planned.{Planned}
+use Rattle.price.specs.declared.Planned.the-variants.{Written, Refused}
+
+-- "The call returns the bytes written and the moves."
+pub record Result : Type 0 where
+  pub bytes : ℕ
+  pub moves : ℕ
+
+abbrev pub result : ℕ → ℕ → Result
+result bytes moves = record { bytes = bytes; moves = moves }
+
+-- document 01's answer in each case of the code's enum
+abbrev pub meaning : Planned → Answer Result
+meaning (Written bytes moves) = accepted (result bytes moves)
+meaning (Refused k) = refused k
+
+-- a plan: its records as bytes, and the moves made
+pub record Plan : Type 0 where
+  pub bytes : List ℕ
+  pub moves : ℕ
+
+abbrev pub plan : Instance → ℕ → ℕ → ℕ → Plan
+plan I set total moves = record { bytes = planBytes I set total moves; moves = moves }
+
+-- what a call returns for the plan that it makes, or for its refusal
+unfoldable pub answer : Answer Plan → Answer Result
+answer (accepted p) = accepted (result (length (p .bytes)) (p .moves))
+answer (refused k) = refused k
+
+-- What it leaves in the area: the plan's records and behind them what stood there before; "a refused call returns its number alone
+-- and the plan area holds what it held before".
+unfoldable pub areaAfter : Answer Plan → List ℕ → List ℕ
+areaAfter (accepted p) area = splice area 0 (p .bytes)
+areaAfter (refused k) area = area
+
+-- 8. Does the set, a 32-bit number whose bit i marks yard i, mark at least one yard and none numbered m or above?
+unfoldable pub question8 : ℕ → ℕ → Bool
+question8 m set = leb 1 set && ltb set (2 ^ m)
+
+-- Pricing the set on the sheet, with an area of so many bytes: "pricing asks 1 to 6, 8 and 9". The total is the full cost, the moves 0.
+unfoldable pub pricing : List ℕ → ℕ → ℕ → Answer Plan
+pricing s set room =
+    after (reading s) (λ c. ask (question8 (c .yards) set) 8 (ask (question9 (c .yards) (c .farms) room) 9
+    (accepted (plan (instanceOf s) set (totalCost (instanceOf s) (member set)) 0))))

@@ -1,0 +1,61 @@
+// Pricing: the nearest open yard of each farm, what a set of yards costs, and the plan of it in the caller's area.
+//
+// `price` asks questions 1 to 6, 8 and 9 of document 01 and writes the plan of the set that it is given. `write_plan`, with
+// `plan_fits`, writes the plan of any set for callers that have read the sheet. Every call is total.
+mod cost;
+mod nearest;
+mod plan;
+
+pub use nearest::Nearest;
+pub use nearest::closer;
+pub use nearest::nearest_yard;
+pub use plan::KIND_FARM;
+pub use plan::KIND_MOVES;
+pub use plan::KIND_OPEN;
+pub use plan::KIND_TOTAL;
+pub use plan::plan_fits;
+pub use plan::write_plan;
+ghost use mathlib.Core.Path.{_≡_};
+ghost use Prim.Native.Nat.{_≤_};
+ghost use lib.ListN.{length};
+ghost use Rattle.price.specs.Pricing.{meaning, answer, areaAfter, question8, pricing};
+use sheet::Reading;
+
+// What a call that writes a plan answers: the bytes written and the moves made, or the number of the first question that is
+// answered no.
+pub enum Planned {
+    Written { bytes: usize, moves: u32 },
+    Refused(u8),
+}
+
+// Prices a set of yards, of which bit i marks yard i, and writes its plan to the front of the area. A refused call leaves the
+// area as it was.
+pub fn price(sheet: &[u8], set: u32, area: &mut [u8]) -> Planned
+    ensures answer { λ r. ⌜ meaning r ≡ answer (pricing (now (sheet .entry)) set (length (now (area .entry)))) ⌝ }
+    ensures area { λ r. ⌜ now (area .exit) ≡ areaAfter (pricing (now (sheet .entry)) set (length (now (area .entry)))) (now (area .entry)) ⌝ }
+{
+    match sheet::read(sheet) {
+        Reading::Accepted { yards, farms } => {
+            let marked = set_good(yards, set);
+            let fits = plan_fits(yards, farms, area.len());
+            if !marked {
+                return Planned::Refused(8);
+            }
+            if !fits {
+                return Planned::Refused(9);
+            }
+            let total = cost::full_cost(sheet, yards, farms, set) as u32;
+            let bytes = write_plan(sheet, yards, farms, set, total, 0, area);
+            Planned::Written { bytes, moves: 0 }
+        }
+        Reading::Refused(k) => Planned::Refused(k),
+    }
+}
+
+// Question 8, of a sheet of m yards.
+fn set_good(m: usize, set: u32) -> bool
+    requires { ⌜ m ≤ 32 ⌝ }
+    ensures { λ r. ⌜ r ≡ question8 m set ⌝ }
+{
+    1 <= set && (set as u64) < 1u64 << (m as u64)
+}

@@ -1,0 +1,128 @@
+-- Laws of the search's two loops. The start: the cheapest facility is found one after the other. The search: from where it is, with
+-- the start's cost less the moves made as fuel, it ends where the whole search ends.
+use Prim.Native.Nat.{ℕ, _+_, _-_, _*_, _^_, _≤_, _<_}
+use native.Mathlib.Nat.{sub-zero}
+use native.Mathlib.Omega.{arith}
+use mathlib.Core.Path.{_≡_, refl, sym, ap, ap₂, fun-ext, _∙_}
+use mathlib.Core.Bool.{true}
+use mathlib.Core.List.{List}
+use Rattle.model.specs.Least.{arg}
+use Rattle.model.specs.Search.{better, next, descend, search}
+use Rattle.model.specs.Neighbours.{swaps, addDropSwap}
+use Rattle.model.specs.Plans.{openCost, openStart, openSearch, limitedCost, limitedStart, limitedSearch}
+use Rattle.model.proofs.SetLaws.{with-none}
+use Rattle.model.proofs.SearchLaws.{descend-stops, descend-turn}
+use Rattle.model.proofs.PlanLaws.{start-one, start-more, same-start}
+use Rattle.sheet.specs.Sheet.{instanceBy}
+use Rattle.sets.specs.Within.{withIn}
+use Rattle.sets.proofs.SetLaws.{with-in}
+use Rattle.search.specs.Tables.{tabled, tableCost, Holds, Zeros}
+use Rattle.search.specs.Settling.{priced, neighboursBy, settledAt}
+use Rattle.search.specs.declared.moves.Priced.{Priced}
+use Rattle.search.specs.declared.descent.Settled.{Settled}
+use Rattle.search.specs.declared.moves.Moves.the-variants.{AddDropSwap, Swap}
+use Rattle.search.proofs.TableLaws.{open-cost-is, limited-cost-is}
+use Rattle.search.proofs.MoveLaws.{set-of, cost-of}
+
+-- ---- the start
+
+module _ (cost : ℕ → ℕ) where
+  -- the set of the cheapest facility below i
+  unfoldable pub cheapest : ℕ → ℕ
+  cheapest i = 2 ^ arg i (λ k. true) (λ k. cost (2 ^ k))
+
+  -- what holds in the loop over the facilities
+  abbrev pub Cheapest : Priced → ℕ → Type 0
+  Cheapest b i = b ≡ priced cost (cheapest i)
+
+  pub cheapest-one : (b : Priced) → b ≡ priced cost 1 → Cheapest b 1
+  unfolding cheapest
+  cheapest-one b e = e ∙ ap (priced cost) (start-one cost)
+
+  pub cheapest-more : (i x : ℕ) (b r : Priced) → 1 ≤ i → i < 32 → Cheapest b i → x ≡ withIn 0 i
+      → r ≡ priced cost (better cost x (b .set)) → Cheapest r (i + 1)
+  unfolding cheapest
+  cheapest-more i x b r some few e x-is h =
+      let single : x ≡ 2 ^ i = x-is ∙ with-in 0 i few ∙ with-none i in
+      h ∙ ap₂ (λ (y z : ℕ). priced cost (better cost y z)) single (set-of cost b (cheapest i) e)
+      ∙ ap (priced cost) (start-more cost i some)
+
+pub cheapest-all : (m n : ℕ) (opening service : List ℕ) (b : Priced) → Cheapest (tableCost m n opening service) b m
+    → b ≡ priced (tableCost m n opening service) (openStart (tabled m n opening service))
+unfolding cheapest openStart tabled tableCost
+cheapest-all m n opening service b e = e
+
+-- ---- the search
+
+module _ (cost : ℕ → ℕ) (neighbours : ℕ → List ℕ) where
+  -- b is reached from the start by these moves, and the rest of the search goes on from it
+  pub record Going (start b : Priced) (made : ℕ) : Type 0 where
+    pub right : b ≡ priced cost (b .set)
+    pub room : b .cost + made ≤ start .cost
+    pub same : search cost neighbours (start .set) ≡ descend cost neighbours (start .cost - made) (b .set) made
+
+  pub going-starts : (start : Priced) → start ≡ priced cost (start .set) → Going start start 0
+  unfolding search
+  going-starts start right =
+      record {
+        right = right;
+        room = omega arith;
+        same =
+            ap (λ (fuel : ℕ). descend cost neighbours fuel (start .set) 0)
+            (sym (sub-zero (start .cost) ∙ cost-of cost start (start .set) right));
+      }
+
+  module _ (start b c : Priced) (made : ℕ) (g : Going start b made) (e : c ≡ priced cost (next cost neighbours (b .set))) where
+    b-cost : b .cost ≡ cost (b .set)
+    b-cost = cost-of cost b (b .set) (g .right)
+
+    c-cost : c .cost ≡ cost (next cost neighbours (b .set))
+    c-cost = cost-of cost c (next cost neighbours (b .set)) e
+
+    pub going-on : c .cost < b .cost → Going start c (made + 1)
+    going-on lower =
+        let c-set = set-of cost c (next cost neighbours (b .set)) e in
+        let falls : cost (next cost neighbours (b .set)) < cost (b .set) = rw (← c-cost, ← b-cost) lower in
+        let fits : cost (b .set) + made ≤ start .cost = rw (← b-cost) (g .room) in
+        record {
+          right = e ∙ ap (priced cost) (sym c-set);
+          room = omega (arith, g .room);
+          same =
+              g .same ∙ descend-turn cost neighbours (start .cost) (b .set) made fits falls
+              ∙ ap (λ (x : ℕ). descend cost neighbours (start .cost - (made + 1)) x (made + 1)) (sym c-set);
+        }
+
+    pub going-ends : b .cost ≤ c .cost
+        → record { set = b .set; cost = b .cost; moves = made } ≡ settledAt cost (search cost neighbours (start .set))
+    unfolding settledAt
+    going-ends no-lower =
+        let stays : cost (b .set) ≤ cost (next cost neighbours (b .set)) = rw (← c-cost, ← b-cost) no-lower in
+        ap (λ (k : ℕ). record { set = b .set; cost = k; moves = made }) b-cost
+        ∙ ap (settledAt cost) (sym (g .same ∙ descend-stops cost neighbours (start .cost - made) (b .set) made stays))
+
+-- ---- on tables filled from a sheet, the search is that of the sheet's instance
+
+module _ (s : List ℕ) (m n : ℕ) (opening service : List ℕ) (hauls : Holds s m (n * m) service) (start : Priced) (r : Settled) where
+  start-is : ((set : ℕ) → tableCost m n opening service set ≡ openCost (instanceBy s m n) set)
+      → openStart (tabled m n opening service) ≡ openStart (instanceBy s m n)
+  unfolding tabled instanceBy tableCost
+  start-is agree = same-start (tabled m n opening service) (instanceBy s m n) refl agree
+
+  pub open-reached : Holds s 0 m opening
+      → start ≡ priced (tableCost m n opening service) (openStart (tabled m n opening service))
+      → r ≡ settledAt (tableCost m n opening service) (search (tableCost m n opening service) (neighboursBy AddDropSwap m) (start .set))
+      → r ≡ settledAt (openCost (instanceBy s m n)) (openSearch (instanceBy s m n) (openStart (instanceBy s m n)))
+  unfolding neighboursBy openSearch instanceBy tableCost openCost addDropSwap
+  open-reached fees e h =
+      let agree = open-cost-is s m n opening service fees hauls in
+      h ∙ ap₂ (λ cost x. settledAt cost (search cost (addDropSwap m) x)) (fun-ext agree)
+      (set-of (tableCost m n opening service) start _ e ∙ start-is agree)
+
+  pub limited-reached : (k x : ℕ) → Zeros m opening → x ≡ limitedStart k → start ≡ priced (tableCost m n opening service) x
+      → r ≡ settledAt (tableCost m n opening service) (search (tableCost m n opening service) (neighboursBy Swap m) (start .set))
+      → r ≡ settledAt (limitedCost (instanceBy s m n)) (limitedSearch (instanceBy s m n) (limitedStart k))
+  unfolding neighboursBy limitedSearch instanceBy tableCost limitedCost swaps
+  limited-reached k x free x-is e h =
+      let agree = limited-cost-is s m n opening service free hauls in
+      h ∙ ap₂ (λ cost y. settledAt cost (search cost (swaps m) y)) (fun-ext agree)
+      (set-of (tableCost m n opening service) start x e ∙ x-is)

@@ -1,0 +1,8 @@
+-- TableLaws: the search's tables. MoveLaws: the best of the moves. DescentLaws: the search loop, and the open start.
+-- PlanningLaws: the cases of the two plans. PromiseLaws: "no move left" and demand 3. MarkedCases: document 01's marked cases.
+pub mod TableLaws
+pub mod MoveLaws
+pub mod DescentLaws
+pub mod PlanningLaws
+pub mod PromiseLaws
+pub mod MarkedCases

@@ -1,0 +1,187 @@
+-- The cases of the two plans: each refusal, and the plan that the search reaches.
+use Prim.Native.Nat.{ℕ, _^_, _≤_, _<_}
+use native.Mathlib.Omega.{arith}
+use mathlib.Core.Path.{_≡_, refl, sym, ap, _∙_}
+use mathlib.Core.Bool.{Bool, true, false, and-false}
+use mathlib.Core.List.{List}
+use borrow.Author.Tests.{le-leb, lt-leb, leb-true}
+use lib.ListN.{length}
+use lib.Dec.{leb}
+use Rattle.model.specs.Sets.{member}
+use Rattle.model.specs.Instance.{Instance}
+use Rattle.model.specs.Search.{search}
+use Rattle.model.specs.Plans.{openCost, openStart, openSearch, limitedCost, limitedStart, limitedSearch}
+use Rattle.model.proofs.Bools.{and-left, and-right}
+use Rattle.model.proofs.SearchLaws.{search-ends}
+use Rattle.sheet.specs.Records.{splice}
+use Rattle.sheet.specs.Answers.{Answer, accepted, refused, ask, after}
+use Rattle.sheet.specs.Sheet.{instanceBy, instanceOf}
+use Rattle.sheet.specs.Shape.{Shape}
+use Rattle.sheet.specs.Reading.{Counts, counts, reading}
+use Rattle.sheet.proofs.AcceptedLaws.{HasForm, instance-is, accepts, door}
+use Rattle.sheet.proofs.CostBounds.{total-fits, service-fits}
+use Rattle.price.specs.Plan.{question9, writing}
+use Rattle.price.specs.Pricing.{Plan, result, meaning, answer, areaAfter}
+use Rattle.price.specs.declared.Planned.{Planned}
+use Rattle.price.proofs.PricingLaws.{makes, writes-of}
+use Rattle.search.specs.declared.descent.Settled.{Settled}
+use Rattle.search.specs.Settling.{settledAt, planOf}
+use Rattle.search.specs.Planning.{openPlan, limitedPlan, question7, openPlanning, limitedPlanning}
+
+-- ---- the plan of what the search settled on
+
+pub open-plan-is : (I : Instance) → planOf I (settledAt (openCost I) (openSearch I (openStart I))) ≡ openPlan I
+unfolding planOf settledAt openPlan
+open-plan-is I = refl
+
+pub limited-plan-is : (I : Instance) (k : ℕ) → planOf I (settledAt (limitedCost I) (limitedSearch I (limitedStart k))) ≡ limitedPlan I k
+unfolding planOf settledAt limitedPlan
+limited-plan-is I k = refl
+
+-- the same, of the instance read off by its counts
+module _ (s : List ℕ) (m n : ℕ) (r : Settled) (form : HasForm s m n) where
+  pub open-made : r ≡ settledAt (openCost (instanceBy s m n)) (openSearch (instanceBy s m n) (openStart (instanceBy s m n)))
+      → planOf (instanceBy s m n) r ≡ openPlan (instanceOf s)
+  open-made e =
+      ap (planOf (instanceBy s m n)) e
+      ∙ ap (λ I. planOf I (settledAt (openCost I) (openSearch I (openStart I)))) (instance-is form) ∙ open-plan-is (instanceOf s)
+
+  pub limited-made : (k : ℕ) → r ≡ settledAt (limitedCost (instanceBy s m n)) (limitedSearch (instanceBy s m n) (limitedStart k))
+      → planOf (instanceBy s m n) r ≡ limitedPlan (instanceOf s) k
+  limited-made k e =
+      ap (planOf (instanceBy s m n)) e
+      ∙ ap (λ I. planOf I (settledAt (limitedCost I) (limitedSearch I (limitedStart k)))) (instance-is form) ∙ limited-plan-is (instanceOf s) k
+
+-- cost and moves of what a search settled on are at most the start's cost, so they fit an amount
+module _ (cost : ℕ → ℕ) (neighbours : ℕ → List ℕ) (start : ℕ) (r : Settled) (e : r ≡ settledAt cost (search cost neighbours start)) where
+  small-by : cost start < 2 ^ 32 → (r .cost < 2 ^ 32) × (r .moves < 2 ^ 32)
+  unfolding settledAt
+  small-by small =
+      let end = search-ends cost neighbours start in
+      rw e (omega (arith, end .few-steps), omega (arith, end .few-steps))
+
+module _ (s : List ℕ) (m n : ℕ) (r : Settled) (e : reading s ≡ accepted (counts m n)) where
+  open-total : (set : ℕ) → openCost (instanceBy s m n) set < 2 ^ 32
+  unfolding openCost
+  open-total set = rw (instance-is (accepts s m n e .has)) (total-fits (instanceOf s) (door s m n e) (member set))
+
+  limited-total : (set : ℕ) → limitedCost (instanceBy s m n) set < 2 ^ 32
+  unfolding limitedCost
+  limited-total set = rw (instance-is (accepts s m n e .has)) (service-fits (instanceOf s) (door s m n e) (member set))
+
+  pub open-small : r ≡ settledAt (openCost (instanceBy s m n)) (openSearch (instanceBy s m n) (openStart (instanceBy s m n)))
+      → (r .cost < 2 ^ 32) × (r .moves < 2 ^ 32)
+  unfolding openSearch
+  open-small h = small-by _ _ _ r h (open-total _)
+
+  pub limited-small : (k : ℕ) → r ≡ settledAt (limitedCost (instanceBy s m n)) (limitedSearch (instanceBy s m n) (limitedStart k))
+      → (r .cost < 2 ^ 32) × (r .moves < 2 ^ 32)
+  unfolding limitedSearch
+  limited-small k h = small-by _ _ _ r h (limited-total _)
+
+-- what a call that wrote the plan q answers and leaves, where q is the plan that it is to make
+pub made : (outcome : Answer Plan) (p q : Plan) (r : Planned) (area next : List ℕ) → outcome ≡ accepted p → q ≡ p
+    → meaning r ≡ answer (accepted q) → next ≡ areaAfter (accepted q) area
+    → (meaning r ≡ answer outcome) × (next ≡ areaAfter outcome area)
+made outcome p q r area next e same-plan says leaves =
+    let is : accepted q ≡ outcome = ap accepted same-plan ∙ sym e in
+    (says ∙ ap answer is, leaves ∙ ap (λ o. areaAfter o area) is)
+
+-- the writer, given a settled set, leaves its plan
+pub writes-settled : (s : List ℕ) (m n : ℕ) (r : Settled) (area next : List ℕ) (bytes : ℕ) → Shape s m n → question9 m n (length area) ≡ true
+    → bytes ≡ length (writing s m n (r .set) (r .cost) (r .moves) (length area))
+    → next ≡ splice area 0 (writing s m n (r .set) (r .cost) (r .moves) (length area))
+    → (accepted (result bytes (r .moves)) ≡ answer (accepted (planOf (instanceBy s m n) r)))
+    × (next ≡ areaAfter (accepted (planOf (instanceBy s m n) r)) area)
+unfolding planOf
+writes-settled s m n r area next bytes shape q long put =
+    let is = writes-of s m n (r .set) (r .cost) (r .moves) (length area) shape q in
+    makes (accepted (planOf (instanceBy s m n) r)) area _ next bytes (r .moves) refl (long ∙ ap length is) refl (put ∙ ap (splice area 0) is)
+
+-- ---- question 7
+
+module _ (m k : ℕ) where
+  pub too-few : k < 1 → question7 m k ≡ false
+  unfolding question7
+  too-few h = rw (lt-leb 1 k h)
+
+  pub too-many : m < k → question7 m k ≡ false
+  unfolding question7
+  too-many h = rw (lt-leb k m h) (and-false (leb 1 k))
+
+  pub k-good : 1 ≤ k → k ≤ m → question7 m k ≡ true
+  unfolding question7
+  k-good some few = rw (le-leb 1 k some, le-leb k m few)
+
+  pub k-within : question7 m k ≡ true → (1 ≤ k) × (k ≤ m)
+  unfolding question7
+  k-within h = (leb-true 1 k (and-left _ _ h), leb-true k m (and-right (leb 1 k) _ h))
+
+-- ---- the cases
+
+module _ (s : List ℕ) (room : ℕ) where
+  pub open-unread : (number : ℕ) → reading s ≡ refused number → openPlanning s room ≡ refused number
+  unfolding openPlanning
+  open-unread number e = rw e
+
+  pub limited-unread : (k number : ℕ) → reading s ≡ refused number → limitedPlanning s k room ≡ refused number
+  unfolding limitedPlanning
+  limited-unread k number e = rw e
+
+  module _ (m n : ℕ) (e : reading s ≡ accepted (counts m n)) where
+    pub open-no-room : question9 m n room ≡ false → openPlanning s room ≡ refused 9
+    unfolding openPlanning
+    open-no-room q = rw (e, q)
+
+    pub open-planned : question9 m n room ≡ true → openPlanning s room ≡ accepted (openPlan (instanceOf s))
+    unfolding openPlanning
+    open-planned q = rw (e, q)
+
+    module _ (k : ℕ) where
+      pub limited-bad-k : question7 m k ≡ false → limitedPlanning s k room ≡ refused 7
+      unfolding limitedPlanning
+      limited-bad-k q = rw (e, q)
+
+      pub limited-no-room : question7 m k ≡ true → question9 m n room ≡ false → limitedPlanning s k room ≡ refused 9
+      unfolding limitedPlanning
+      limited-no-room q h = rw (e, q, h)
+
+      pub limited-planned : question7 m k ≡ true → question9 m n room ≡ true → limitedPlanning s k room ≡ accepted (limitedPlan (instanceOf s) k)
+      unfolding limitedPlanning
+      limited-planned q h = rw (e, q, h)
+
+-- ---- and back: where a plan is made, the sheet was accepted and the questions were answered yes
+
+apart : {A : Type 0} {x : A} {k : ℕ} → _≡_ {A = Answer A} (refused k) (accepted x) → ⊥
+apart h = let z : _≡_ {A = ℕ} 0 1 = cc in omega arith
+
+same : {A : Type 0} {x y : A} → accepted x ≡ accepted y → x ≡ y
+same h = cc
+
+asked : {A : Type 0} (b : Bool) (k : ℕ) (rest : Answer A) (x : A) → ask b k rest ≡ accepted x → (b ≡ true) × (rest ≡ accepted x)
+asked true k rest x h = (refl, h)
+asked false k rest x h = absurd (apart h)
+
+read-first : {A : Type 0} (r : Answer Counts) (f : Counts → Answer A) (x : A) → after r f ≡ accepted x
+    → (c : Counts) × (r ≡ accepted c) × (f c ≡ accepted x)
+read-first (accepted c) f x h = (c, refl, h)
+read-first (refused k) f x h = absurd (apart h)
+
+pub open-when : (s : List ℕ) (room : ℕ) (p : Plan) → openPlanning s room ≡ accepted p
+    → (m : ℕ) × (n : ℕ) × (reading s ≡ accepted (counts m n)) × (p ≡ openPlan (instanceOf s))
+unfolding openPlanning
+open-when s room p h =
+    let r = read-first (reading s) _ p h in
+    let c = r .0 in
+    let q = asked (question9 (c .yards) (c .farms) room) 9 _ p (r .2) in
+    (c .yards, c .farms, r .1, sym (same (q .1)))
+
+pub limited-when : (s : List ℕ) (k room : ℕ) (p : Plan) → limitedPlanning s k room ≡ accepted p
+    → (m : ℕ) × (n : ℕ) × (reading s ≡ accepted (counts m n)) × (k ≤ m) × (p ≡ limitedPlan (instanceOf s) k)
+unfolding limitedPlanning
+limited-when s k room p h =
+    let r = read-first (reading s) _ p h in
+    let c = r .0 in
+    let q7 = asked (question7 (c .yards) k) 7 _ p (r .2) in
+    let q9 = asked (question9 (c .yards) (c .farms) room) 9 _ p (q7 .1) in
+    (c .yards, c .farms, r .1, k-within (c .yards) k (q7 .0) .1, sym (same (q9 .1)))

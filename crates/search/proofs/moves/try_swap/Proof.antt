@@ -1,0 +1,37 @@
+-- `moves::try_swap` meets its contract: an open yard i gives no move, a closed one gives one.
+use native.Mathlib.Omega.{arith}
+use mathlib.Core.Path.{sym, _∙_}
+use borrow.Author.Needs.{needs}
+use Rattle.model.specs.Neighbours.{swapAt}
+use Rattle.model.specs.Search.{best}
+use Rattle.sets.proofs.SetLaws.{with-in}
+use Rattle.search.proofs.moves.try_swap.Statement.{statement}
+use Rattle.search.proofs.moves.try_swap.Tie as tie
+
+has-requires : tie.Need-has-requires
+has-requires c κs = search needs
+
+returns : tie.Need-returns
+unfolding swapAt best
+returns c = rw (sym (c .before .has .ensures) ∙ c .if1 .taken) (c .before .before .before .before .pre .0 .right)
+
+removed-requires : tie.Need-removed-requires
+removed-requires c κs = search needs
+
+added-requires : tie.Need-added-requires
+added-requires c κs = search needs
+
+better-of-requires : tie.Need-better-of-requires
+better-of-requires c κs = search needs
+
+returns-2 : tie.Need-returns-2
+unfolding swapAt best
+returns-2 c = let s = c .before .before .before .before .before .before .before in
+    let x-is = c .before .added .ensures ∙ with-in _ _ (omega (arith, s .pre .0 .tables .few-facilities)) in
+    let shut = sym (c .before .before .before .before .has .ensures) ∙ c .before .before .before .if1 .left in
+    rw (shut, ← c .before .before .removed .ensures, ← x-is) (c .better-of .ensures)
+
+pub try-swap-spec : {M : Type 1} → statement M
+try-swap-spec =
+    tie.close
+    (tie.spec has-requires returns removed-requires added-requires better-of-requires returns-2)

@@ -1,0 +1,69 @@
+-- `tables::fill` meets its contract. The invariant: the table keeps its length, and its front holds the amounts of the records passed.
+use borrow.Author.Needs.{needs}
+use mathlib.Core.Path.{_≡_, refl}
+use Prim.Native.Nat.{_≤_, _-_}
+use native.Mathlib.Omega.{arith}
+use lib.ListN.{length, length-set}
+use Rattle.search.specs.Tables.{Holds}
+use Rattle.search.proofs.TableLaws.{holds-none, holds-more}
+use Rattle.search.proofs.tables.fill.Statement.{statement}
+use Rattle.search.proofs.tables.fill.Tie as tie
+
+abbrev Inv-loop : tie.InvT-loop
+Inv-loop sheet from count table₀ i₀ table i = (i ≤ count) × (length table ≡ length table₀) × Holds sheet from i table
+
+abbrev μ-loop : tie.MeasureT-loop
+μ-loop sheet from count table₀ i₀ table i = count - i
+
+loop-holds : tie.Need-loop-holds Inv-loop μ-loop
+loop-holds c = let a = c .before .before .args in
+    (omega arith, refl, holds-none (a .sheet .now) (a .from) (a .table .now))
+
+add-at : tie.Need-add-at Inv-loop μ-loop
+add-at c = omega arith
+
+at-requires : tie.Need-at-requires Inv-loop μ-loop
+at-requires c κs = search needs
+
+mul-table : tie.Need-mul-table Inv-loop μ-loop
+mul-table c = omega arith
+
+slice-write-table : tie.Need-slice-write-table Inv-loop μ-loop
+slice-write-table c = omega arith
+
+add-i : tie.Need-add-i Inv-loop μ-loop
+add-i c = omega arith
+
+loop-less : tie.Need-loop-less Inv-loop μ-loop
+loop-less c = omega arith
+
+loop-again : tie.Need-loop-again Inv-loop μ-loop
+loop-again c = let a = c .before .before .before .before .before .args in
+    let l = c .before .before .loop in (
+      omega arith,
+      simp length-set (l .inv .1),
+      holds-more (a .sheet .now) (a .from) (l .i) (l .table) _ (omega arith) (omega arith) (c .at .ensures) (l .inv .2),
+    )
+
+same-length : tie.Need-same-length Inv-loop μ-loop
+same-length c = c .before .loop .inv .1
+
+returns : tie.Need-returns Inv-loop μ-loop
+returns c = λ k l. c .before .loop .inv .2 k (omega arith)
+
+pub fill-spec : {M : Type 1} → statement M
+fill-spec =
+    tie.close
+    (tie.spec
+    Inv-loop
+    μ-loop
+    loop-holds
+    add-at
+    at-requires
+    mul-table
+    slice-write-table
+    add-i
+    loop-less
+    loop-again
+    same-length
+    returns)

@@ -1,0 +1,6 @@
+-- Tables: the instance that the search's tables hold. Settling: a set with its cost, the moves, and where the search ends.
+-- Planning: question 7, and what the two plans answer and write. Promises: "no move left" and demand 3.
+pub mod Tables
+pub mod Settling
+pub mod Planning
+pub mod Promises

@@ -1,0 +1,144 @@
+// The two plans: local search over sets of yards from document 01's starts, by its moves.
+//
+// `open_plan` goes by fees and hauls and adds, drops and swaps yards; `limited_plan` keeps k yards and goes by hauls alone. Both read
+// the sheet once into tables and run the same search on them. Every call is total.
+mod cost;
+mod descent;
+mod moves;
+mod tables;
+
+pub use descent::Settled;
+ghost use mathlib.Core.Path.{_≡_};
+ghost use mathlib.Core.Bool.{true};
+ghost use Prim.Native.Nat.{_*_, _^_, _≤_, _<_};
+ghost use lib.ListN.{length};
+ghost use Rattle.model.specs.Plans.{openCost, openStart, openSearch, limitedCost, limitedStart, limitedSearch};
+ghost use Rattle.sheet.specs.Sheet.{instanceBy};
+ghost use Rattle.sheet.specs.Shape.{Shape};
+ghost use Rattle.sheet.specs.Answers.{accepted};
+ghost use Rattle.price.specs.Plan.{question9};
+ghost use Rattle.price.specs.Pricing.{meaning, answer, areaAfter};
+ghost use Rattle.search.specs.Tables.{Zeros};
+ghost use Rattle.search.specs.Settling.{settledAt, planOf};
+ghost use Rattle.search.specs.Planning.{openPlanning, limitedPlanning};
+ghost use Rattle.search.specs.Promises.{OpenSettled, OpenBounded, LimitedSettled, LimitedBounded};
+use moves::Moves;
+use price::Planned;
+use sheet::Reading;
+
+// Writes the open plan of a sheet to the front of the area. A refused call leaves the area as it was.
+pub fn open_plan(sheet: &[u8], area: &mut [u8]) -> Planned
+    ensures answer { λ r. ⌜ meaning r ≡ answer (openPlanning (now (sheet .entry)) (length (now (area .entry)))) ⌝ }
+    ensures area { λ r. ⌜ now (area .exit) ≡ areaAfter (openPlanning (now (sheet .entry)) (length (now (area .entry)))) (now (area .entry)) ⌝ }
+    ensures settled { λ r. ⌜ OpenSettled (now (sheet .entry)) r (now (area .exit)) ⌝ }
+    ensures bounded { λ r. ⌜ OpenBounded (now (sheet .entry)) r (now (area .exit)) ⌝ }
+{
+    match sheet::read(sheet) {
+        Reading::Accepted { yards, farms } => {
+            if !price::plan_fits(yards, farms, area.len()) {
+                return Planned::Refused(9);
+            }
+            let settled = open_search(sheet, yards, farms);
+            write(sheet, yards, farms, settled, area)
+        }
+        Reading::Refused(k) => Planned::Refused(k),
+    }
+}
+
+// Writes the limited plan of a sheet for k yards to the front of the area. A refused call leaves the area as it was.
+pub fn limited_plan(sheet: &[u8], k: usize, area: &mut [u8]) -> Planned
+    ensures answer { λ r. ⌜ meaning r ≡ answer (limitedPlanning (now (sheet .entry)) k (length (now (area .entry)))) ⌝ }
+    ensures area { λ r. ⌜ now (area .exit) ≡ areaAfter (limitedPlanning (now (sheet .entry)) k (length (now (area .entry)))) (now (area .entry)) ⌝ }
+    ensures settled { λ r. ⌜ LimitedSettled (now (sheet .entry)) r (now (area .exit)) ⌝ }
+    ensures bounded { λ r. ⌜ LimitedBounded (now (sheet .entry)) k r (now (area .exit)) ⌝ }
+{
+    match sheet::read(sheet) {
+        Reading::Accepted { yards, farms } => {
+            if k < 1 {
+                return Planned::Refused(7);
+            }
+            if yards < k {
+                return Planned::Refused(7);
+            }
+            if !price::plan_fits(yards, farms, area.len()) {
+                return Planned::Refused(9);
+            }
+            let settled = limited_search(sheet, yards, farms, k);
+            write(sheet, yards, farms, settled, area)
+        }
+        Reading::Refused(number) => Planned::Refused(number),
+    }
+}
+
+// The search of the open plan, by the sheet's fees and hauls.
+fn open_search(sheet: &[u8], m: usize, n: usize) -> Settled
+    requires { ⌜ Shape (now sheet) m n × (1 ≤ m) ⌝ }
+    ensures { λ r. ⌜ r ≡ settledAt (openCost (instanceBy (now (sheet .entry)) m n)) (openSearch (instanceBy (now (sheet .entry)) m n) (openStart (instanceBy (now (sheet .entry)) m n))) ⌝ }
+{
+    let mut opening = [0u32; 32];
+    let mut service = [0u32; 4096];
+    open_search_on(sheet, m, n, &mut opening, &mut service)
+}
+
+// The same, on tables that are lent.
+fn open_search_on(
+    sheet: &[u8],
+    m: usize,
+    n: usize,
+    opening: &mut [u32],
+    service: &mut [u32],
+) -> Settled
+    requires { ⌜ Shape (now sheet) m n × (1 ≤ m) × (m ≤ length (now opening)) × (n * m ≤ length (now service)) ⌝ }
+    ensures { λ r. ⌜ r ≡ settledAt (openCost (instanceBy (now (sheet .entry)) m n)) (openSearch (instanceBy (now (sheet .entry)) m n) (openStart (instanceBy (now (sheet .entry)) m n))) ⌝ }
+{
+    tables::fill(sheet, 0, m, opening);
+    tables::fill(sheet, m, n * m, service);
+    let start = descent::cheapest_yard(opening, service, m, n);
+    descent::settle(Moves::AddDropSwap, opening, service, m, n, start)
+}
+
+// Yards 0 to k - 1.
+fn first_yards(k: usize) -> u32
+    requires { ⌜ k ≤ 32 ⌝ }
+    ensures { λ r. ⌜ r ≡ limitedStart k ⌝ }
+{
+    ((1u64 << (k as u64)) - 1) as u32
+}
+
+// The search of the limited plan, by the sheet's hauls: every opening cost is 0.
+fn limited_search(sheet: &[u8], m: usize, n: usize, k: usize) -> Settled
+    requires { ⌜ Shape (now sheet) m n × (k ≤ m) ⌝ }
+    ensures { λ r. ⌜ r ≡ settledAt (limitedCost (instanceBy (now (sheet .entry)) m n)) (limitedSearch (instanceBy (now (sheet .entry)) m n) (limitedStart k)) ⌝ }
+{
+    let opening = [0u32; 32];
+    let mut service = [0u32; 4096];
+    limited_search_on(sheet, m, n, k, &opening, &mut service)
+}
+
+// The same, on tables that are lent.
+fn limited_search_on(
+    sheet: &[u8],
+    m: usize,
+    n: usize,
+    k: usize,
+    opening: &[u32],
+    service: &mut [u32],
+) -> Settled
+    requires { ⌜ Shape (now sheet) m n × (k ≤ m) × (m ≤ length (now opening)) × Zeros m (now opening) × (n * m ≤ length (now service)) ⌝ }
+    ensures { λ r. ⌜ r ≡ settledAt (limitedCost (instanceBy (now (sheet .entry)) m n)) (limitedSearch (instanceBy (now (sheet .entry)) m n) (limitedStart k)) ⌝ }
+{
+    tables::fill(sheet, m, n * m, service);
+    let start = moves::priced_set(opening, service, m, n, first_yards(k));
+    descent::settle(Moves::Swap, opening, service, m, n, start)
+}
+
+// Writes the plan of the set that a search settled on; the moves are those made.
+fn write(sheet: &[u8], m: usize, n: usize, settled: Settled, area: &mut [u8]) -> Planned
+    requires { ⌜ Shape (now sheet) m n × (question9 m n (length (now area)) ≡ true) × (settled .cost < 2 ^ 32) × (settled .moves < 2 ^ 32) ⌝ }
+    ensures answer { λ r. ⌜ meaning r ≡ answer (accepted (planOf (instanceBy (now (sheet .entry)) m n) settled)) ⌝ }
+    ensures area { λ r. ⌜ now (area .exit) ≡ areaAfter (accepted (planOf (instanceBy (now (sheet .entry)) m n) settled)) (now (area .entry)) ⌝ }
+{
+    let moves = settled.moves as u32;
+    let bytes = price::write_plan(sheet, m, n, settled.set, settled.cost as u32, moves, area);
+    Planned::Written { bytes, moves }
+}

@@ -1,0 +1,2 @@
+-- SetLaws: what fits into 32 bits.
+pub mod SetLaws

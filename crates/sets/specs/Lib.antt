@@ -1,0 +1,2 @@
+-- Within: sets that stay within 32 bits.
+pub mod Within
