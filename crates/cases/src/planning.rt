@@ -89,73 +89,92 @@ fn print_answer(name: &[u8], answer: Planned, area: &[u8]) {
     }
 }
 
-fn price_case(name: &[u8], sheet: &[u8], set: u32, area: &mut [u8]) {
+fn price_in(name: &[u8], sheet: &[u8], set: u32, area: &mut [u8]) {
     fill(area);
     let answer = price::price(sheet, set, area);
     print_answer(name, answer, area);
 }
 
-fn open_case(name: &[u8], sheet: &[u8], area: &mut [u8]) {
+fn open_in(name: &[u8], sheet: &[u8], area: &mut [u8]) {
     fill(area);
     let answer = search::open_plan(sheet, area);
     print_answer(name, answer, area);
 }
 
-fn limited_case(name: &[u8], sheet: &[u8], k: usize, area: &mut [u8]) {
+fn limited_in(name: &[u8], sheet: &[u8], k: usize, area: &mut [u8]) {
     fill(area);
     let answer = search::limited_plan(sheet, k, area);
     print_answer(name, answer, area);
 }
 
+// The first n bytes of a space, or all where there are fewer.
+fn lent(space: &mut [u8], n: usize) -> &mut [u8] {
+    if n <= space.len() {
+        &mut space[..n]
+    } else {
+        space
+    }
+}
+
+// Pricing, with an area of so many bytes.
+fn price_case(name: &[u8], sheet: &[u8], set: u32, room: usize) {
+    let mut space = [0u8; 1304];
+    price_in(name, sheet, set, lent(&mut space, room));
+}
+
+fn open_case(name: &[u8], sheet: &[u8], room: usize) {
+    let mut space = [0u8; 1304];
+    open_in(name, sheet, lent(&mut space, room));
+}
+
+fn limited_case(name: &[u8], sheet: &[u8], k: usize, room: usize) {
+    let mut space = [0u8; 1304];
+    limited_in(name, sheet, k, lent(&mut space, room));
+}
+
 // S with areas of 63, 64 and 80 bytes.
 fn areas(sheet: &[u8]) {
-    let mut short = [0u8; 63];
-    open_case(b"S, open plan, area of 63", sheet, &mut short);
-    limited_case(b"S, k = 2, area of 63", sheet, 2, &mut short);
-    price_case(b"S, pricing {0, 2}, area of 63", sheet, 5, &mut short);
-    let mut exact = [0u8; 64];
-    open_case(b"S, open plan, area of 64", sheet, &mut exact);
-    limited_case(b"S, k = 3, area of 64", sheet, 3, &mut exact);
-    price_case(b"S, pricing {0, 2}, area of 64", sheet, 5, &mut exact);
-    let mut long = [0u8; 80];
-    open_case(b"S, open plan, area of 80", sheet, &mut long);
-    limited_case(b"S, k = 1, area of 80", sheet, 1, &mut long);
-    limited_case(b"S, k = 2, area of 80", sheet, 2, &mut long);
-    price_case(b"S, pricing {1}, area of 80", sheet, 2, &mut long);
-    price_case(b"S, pricing {0, 1}, area of 80", sheet, 3, &mut long);
+    open_case(b"S, open plan, area of 63", sheet, 63);
+    limited_case(b"S, k = 2, area of 63", sheet, 2, 63);
+    price_case(b"S, pricing {0, 2}, area of 63", sheet, 5, 63);
+    open_case(b"S, open plan, area of 64", sheet, 64);
+    limited_case(b"S, k = 3, area of 64", sheet, 3, 64);
+    price_case(b"S, pricing {0, 2}, area of 64", sheet, 5, 64);
+    open_case(b"S, open plan, area of 80", sheet, 80);
+    limited_case(b"S, k = 1, area of 80", sheet, 1, 80);
+    limited_case(b"S, k = 2, area of 80", sheet, 2, 80);
+    price_case(b"S, pricing {1}, area of 80", sheet, 2, 80);
+    price_case(b"S, pricing {0, 1}, area of 80", sheet, 3, 80);
 }
 
 // Questions 7, 8 and 9, alone and together: the earlier one answers.
 fn questions(sheet: &[u8]) {
-    let mut area = [0u8; 64];
-    limited_case(b"S, k = 0", sheet, 0, &mut area);
-    limited_case(b"S, k = 4", sheet, 4, &mut area);
+    limited_case(b"S, k = 0", sheet, 0, 64);
+    limited_case(b"S, k = 4", sheet, 4, 64);
     limited_case(
         b"S, k = 18446744073709551615",
         sheet,
         18446744073709551615,
-        &mut area,
+        64,
     );
-    price_case(b"S, no yard", sheet, 0, &mut area);
-    price_case(b"S, yard 3", sheet, 8, &mut area);
-    price_case(b"S, yards 0 and 31", sheet, 2147483649, &mut area);
-    price_case(b"S, 32 yards", sheet, 4294967295, &mut area);
-    let mut none = [0u8; 0];
-    open_case(b"S, no area", sheet, &mut none);
-    limited_case(b"S, k = 4, no area", sheet, 4, &mut none);
-    price_case(b"S, no yard, no area", sheet, 0, &mut none);
-    price_case(b"S, all yards, no area", sheet, 7, &mut none);
+    price_case(b"S, no yard", sheet, 0, 64);
+    price_case(b"S, yard 3", sheet, 8, 64);
+    price_case(b"S, yards 0 and 31", sheet, 2147483649, 64);
+    price_case(b"S, 32 yards", sheet, 4294967295, 64);
+    open_case(b"S, no area", sheet, 0);
+    limited_case(b"S, k = 4, no area", sheet, 4, 0);
+    price_case(b"S, no yard, no area", sheet, 0, 0);
+    price_case(b"S, all yards, no area", sheet, 7, 0);
 }
 
 // A sheet that reading turns down, with everything else wrong too.
 fn unread_calls(name: &[u8], sheet: &[u8]) {
-    let mut area = [0u8; 16];
     text(name);
-    open_case(b", open plan", sheet, &mut area);
+    open_case(b", open plan", sheet, 16);
     text(name);
-    limited_case(b", k = 0", sheet, 0, &mut area);
+    limited_case(b", k = 0", sheet, 0, 16);
     text(name);
-    price_case(b", no yard", sheet, 0, &mut area);
+    price_case(b", no yard", sheet, 0, 16);
 }
 
 // The first n bytes of S with one of its records replaced.
@@ -175,23 +194,20 @@ fn unread_sheets() {
     unread(b"the rule broken", 40, haul(0, 2, 10), 96);
 }
 
+fn largest_calls(sheet: &[u8]) {
+    open_case(b"32 yards, 128 farms, open plan", sheet, 1304);
+    limited_case(b"32 yards, 128 farms, k = 32", sheet, 32, 1304);
+    limited_case(b"32 yards, 128 farms, k = 33", sheet, 33, 1304);
+    price_case(b"32 yards, 128 farms, pricing all", sheet, 4294967295, 1304);
+    open_case(b"32 yards, 128 farms, area of 1295", sheet, 1295);
+}
+
 // 32 yards and 128 farms, at the highest amounts: one yard is opened, and 32 are kept.
 fn largest() {
     let mut sheet = [0u8; 33024];
     let hauls = put_yards(&mut sheet, 32, 50000000);
     put_farms(&mut sheet, hauls, 128, 32, 1000000);
-    let mut area = [0u8; 1304];
-    open_case(b"32 yards, 128 farms, open plan", &sheet, &mut area);
-    limited_case(b"32 yards, 128 farms, k = 32", &sheet, 32, &mut area);
-    limited_case(b"32 yards, 128 farms, k = 33", &sheet, 33, &mut area);
-    price_case(
-        b"32 yards, 128 farms, pricing all",
-        &sheet,
-        4294967295,
-        &mut area,
-    );
-    let mut short = [0u8; 1295];
-    open_case(b"32 yards, 128 farms, area of 1295", &sheet, &mut short);
+    largest_calls(&sheet);
 }
 
 pub(crate) fn all() {
