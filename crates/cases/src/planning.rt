@@ -3,6 +3,7 @@ use crate::output::number;
 use crate::output::text;
 use crate::sheets::front;
 use crate::sheets::haul;
+use crate::sheets::put_dropping;
 use crate::sheets::put_farms;
 use crate::sheets::put_s;
 use crate::sheets::put_yards;
@@ -194,6 +195,14 @@ fn unread_sheets() {
     unread(b"the rule broken", 40, haul(0, 2, 10), 96);
 }
 
+// A sheet whose open plan makes moves of every kind.
+fn dropping() {
+    let mut sheet = [0u8; 160];
+    put_dropping(&mut sheet);
+    open_case(b"a yard is dropped, open plan", &sheet, 80);
+    limited_case(b"the same sheet, k = 2", &sheet, 2, 80);
+}
+
 fn largest_calls(sheet: &[u8]) {
     open_case(b"32 yards, 128 farms, open plan", sheet, 1304);
     limited_case(b"32 yards, 128 farms, k = 32", sheet, 32, 1304);
@@ -215,6 +224,7 @@ pub(crate) fn all() {
     put_s(&mut sheet);
     areas(&sheet);
     questions(&sheet);
+    dropping();
     unread_sheets();
     largest();
 }

@@ -91,3 +91,35 @@ pub(crate) fn put_s(area: &mut [u8]) {
     put_three(area, 48, 1, 5, 1, 5);
     put_three(area, 72, 2, 9, 5, 1);
 }
+
+// A farm's hauls to four yards.
+fn put_four(
+    area: &mut [u8],
+    at: usize,
+    farm: u8,
+    first: u32,
+    second: u32,
+    third: u32,
+    fourth: u32,
+) {
+    let at2 = put_haul(area, at, farm, 0, first);
+    let at3 = put_haul(area, at2, farm, 1, second);
+    let at4 = put_haul(area, at3, farm, 2, third);
+    put_haul(area, at4, farm, 3, fourth);
+}
+
+fn put_four_yards(area: &mut [u8], first: u32, second: u32, third: u32, fourth: u32) {
+    put_yard(area, 0, 0, first);
+    put_yard(area, 8, 1, second);
+    put_yard(area, 16, 2, third);
+    put_yard(area, 24, 3, fourth);
+}
+
+// Four yards and four farms. The open search starts at yard 3, adds 0 and then 1, swaps 3 for 2, and drops 0.
+pub(crate) fn put_dropping(area: &mut [u8]) {
+    put_four_yards(area, 2, 3, 3, 5);
+    put_four(area, 32, 0, 3, 14, 4, 8);
+    put_four(area, 64, 1, 9, 10, 2, 4);
+    put_four(area, 96, 2, 9, 4, 8, 2);
+    put_four(area, 128, 3, 12, 1, 11, 5);
+}

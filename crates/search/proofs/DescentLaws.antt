@@ -17,7 +17,7 @@ use Rattle.sheet.specs.Sheet.{instanceBy}
 use Rattle.sets.specs.Within.{withIn}
 use Rattle.sets.proofs.SetLaws.{with-in}
 use Rattle.search.specs.Tables.{tabled, tableCost, Holds, Zeros}
-use Rattle.search.specs.Settling.{priced, neighboursBy, settledAt}
+use Rattle.search.specs.Settling.{priced, neighboursBy, settledAt, openEnd, limitedEnd}
 use Rattle.search.specs.declared.moves.Priced.{Priced}
 use Rattle.search.specs.declared.descent.Settled.{Settled}
 use Rattle.search.specs.declared.moves.Moves.the-variants.{AddDropSwap, Swap}
@@ -111,8 +111,8 @@ module _ (s : List ℕ) (m n : ℕ) (opening service : List ℕ) (hauls : Holds 
   pub open-reached : Holds s 0 m opening
       → start ≡ priced (tableCost m n opening service) (openStart (tabled m n opening service))
       → r ≡ settledAt (tableCost m n opening service) (search (tableCost m n opening service) (neighboursBy AddDropSwap m) (start .set))
-      → r ≡ settledAt (openCost (instanceBy s m n)) (openSearch (instanceBy s m n) (openStart (instanceBy s m n)))
-  unfolding neighboursBy openSearch instanceBy tableCost openCost addDropSwap
+      → r ≡ openEnd (instanceBy s m n)
+  unfolding openEnd neighboursBy openSearch instanceBy tableCost openCost addDropSwap
   open-reached fees e h =
       let agree = open-cost-is s m n opening service fees hauls in
       h ∙ ap₂ (λ cost x. settledAt cost (search cost (addDropSwap m) x)) (fun-ext agree)
@@ -120,8 +120,8 @@ module _ (s : List ℕ) (m n : ℕ) (opening service : List ℕ) (hauls : Holds 
 
   pub limited-reached : (k x : ℕ) → Zeros m opening → x ≡ limitedStart k → start ≡ priced (tableCost m n opening service) x
       → r ≡ settledAt (tableCost m n opening service) (search (tableCost m n opening service) (neighboursBy Swap m) (start .set))
-      → r ≡ settledAt (limitedCost (instanceBy s m n)) (limitedSearch (instanceBy s m n) (limitedStart k))
-  unfolding neighboursBy limitedSearch instanceBy tableCost limitedCost swaps
+      → r ≡ limitedEnd (instanceBy s m n) k
+  unfolding limitedEnd neighboursBy limitedSearch instanceBy tableCost limitedCost swaps
   limited-reached k x free x-is e h =
       let agree = limited-cost-is s m n opening service free hauls in
       h ∙ ap₂ (λ cost y. settledAt cost (search cost (swaps m) y)) (fun-ext agree)

@@ -10,7 +10,7 @@ use lib.Dec.{leb}
 use Rattle.model.specs.Sets.{member}
 use Rattle.model.specs.Instance.{Instance}
 use Rattle.model.specs.Search.{search}
-use Rattle.model.specs.Plans.{openCost, openStart, openSearch, limitedCost, limitedStart, limitedSearch}
+use Rattle.model.specs.Plans.{openCost, openSearch, limitedCost, limitedSearch}
 use Rattle.model.proofs.Bools.{and-left, and-right}
 use Rattle.model.proofs.SearchLaws.{search-ends}
 use Rattle.sheet.specs.Records.{splice}
@@ -25,32 +25,27 @@ use Rattle.price.specs.Pricing.{Plan, result, meaning, answer, areaAfter}
 use Rattle.price.specs.declared.Planned.{Planned}
 use Rattle.price.proofs.PricingLaws.{makes, writes-of}
 use Rattle.search.specs.declared.descent.Settled.{Settled}
-use Rattle.search.specs.Settling.{settledAt, planOf}
+use Rattle.search.specs.Settling.{settledAt, openEnd, limitedEnd, planOf}
 use Rattle.search.specs.Planning.{openPlan, limitedPlan, question7, openPlanning, limitedPlanning}
 
 -- ---- the plan of what the search settled on
 
-pub open-plan-is : (I : Instance) → planOf I (settledAt (openCost I) (openSearch I (openStart I))) ≡ openPlan I
-unfolding planOf settledAt openPlan
+pub open-plan-is : (I : Instance) → planOf I (openEnd I) ≡ openPlan I
+unfolding planOf openEnd settledAt openPlan
 open-plan-is I = refl
 
-pub limited-plan-is : (I : Instance) (k : ℕ) → planOf I (settledAt (limitedCost I) (limitedSearch I (limitedStart k))) ≡ limitedPlan I k
-unfolding planOf settledAt limitedPlan
+pub limited-plan-is : (I : Instance) (k : ℕ) → planOf I (limitedEnd I k) ≡ limitedPlan I k
+unfolding planOf limitedEnd settledAt limitedPlan
 limited-plan-is I k = refl
 
--- the same, of the instance read off by its counts
+-- of the instance that is read off by its counts
 module _ (s : List ℕ) (m n : ℕ) (r : Settled) (form : HasForm s m n) where
-  pub open-made : r ≡ settledAt (openCost (instanceBy s m n)) (openSearch (instanceBy s m n) (openStart (instanceBy s m n)))
-      → planOf (instanceBy s m n) r ≡ openPlan (instanceOf s)
-  open-made e =
-      ap (planOf (instanceBy s m n)) e
-      ∙ ap (λ I. planOf I (settledAt (openCost I) (openSearch I (openStart I)))) (instance-is form) ∙ open-plan-is (instanceOf s)
+  pub open-made : r ≡ openEnd (instanceBy s m n) → planOf (instanceBy s m n) r ≡ openPlan (instanceOf s)
+  open-made e = ap (planOf (instanceBy s m n)) e ∙ ap (λ I. planOf I (openEnd I)) (instance-is form) ∙ open-plan-is (instanceOf s)
 
-  pub limited-made : (k : ℕ) → r ≡ settledAt (limitedCost (instanceBy s m n)) (limitedSearch (instanceBy s m n) (limitedStart k))
-      → planOf (instanceBy s m n) r ≡ limitedPlan (instanceOf s) k
+  pub limited-made : (k : ℕ) → r ≡ limitedEnd (instanceBy s m n) k → planOf (instanceBy s m n) r ≡ limitedPlan (instanceOf s) k
   limited-made k e =
-      ap (planOf (instanceBy s m n)) e
-      ∙ ap (λ I. planOf I (settledAt (limitedCost I) (limitedSearch I (limitedStart k)))) (instance-is form) ∙ limited-plan-is (instanceOf s) k
+      ap (planOf (instanceBy s m n)) e ∙ ap (λ I. planOf I (limitedEnd I k)) (instance-is form) ∙ limited-plan-is (instanceOf s) k
 
 -- cost and moves of what a search settled on are at most the start's cost, so they fit an amount
 module _ (cost : ℕ → ℕ) (neighbours : ℕ → List ℕ) (start : ℕ) (r : Settled) (e : r ≡ settledAt cost (search cost neighbours start)) where
@@ -69,14 +64,12 @@ module _ (s : List ℕ) (m n : ℕ) (r : Settled) (e : reading s ≡ accepted (c
   unfolding limitedCost
   limited-total set = rw (instance-is (accepts s m n e .has)) (service-fits (instanceOf s) (door s m n e) (member set))
 
-  pub open-small : r ≡ settledAt (openCost (instanceBy s m n)) (openSearch (instanceBy s m n) (openStart (instanceBy s m n)))
-      → (r .cost < 2 ^ 32) × (r .moves < 2 ^ 32)
-  unfolding openSearch
+  pub open-small : r ≡ openEnd (instanceBy s m n) → (r .cost < 2 ^ 32) × (r .moves < 2 ^ 32)
+  unfolding openEnd openSearch
   open-small h = small-by _ _ _ r h (open-total _)
 
-  pub limited-small : (k : ℕ) → r ≡ settledAt (limitedCost (instanceBy s m n)) (limitedSearch (instanceBy s m n) (limitedStart k))
-      → (r .cost < 2 ^ 32) × (r .moves < 2 ^ 32)
-  unfolding limitedSearch
+  pub limited-small : (k : ℕ) → r ≡ limitedEnd (instanceBy s m n) k → (r .cost < 2 ^ 32) × (r .moves < 2 ^ 32)
+  unfolding limitedEnd limitedSearch
   limited-small k h = small-by _ _ _ r h (limited-total _)
 
 -- what a call that wrote the plan q answers and leaves, where q is the plan that it is to make

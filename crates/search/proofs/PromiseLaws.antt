@@ -28,8 +28,8 @@ use Rattle.search.proofs.PlanningLaws.{open-when, limited-when}
 
 -- ---- the set in the area
 
--- a plan of some set of yards of which P holds
-record Fine (P : ℕ → Type 0) (p : Plan) : Type 0 where
+-- p is the plan of a set of yards of which P holds
+record HasSet (P : ℕ → Type 0) (p : Plan) : Type 0 where
   instance : Instance
   set : ℕ
   total : ℕ
@@ -42,7 +42,7 @@ record Fine (P : ℕ → Type 0) (p : Plan) : Type 0 where
 -- what holds of the set of every plan that a call can make holds of the set that is read off the area at its exit
 module _ (outcome : Answer Plan) (r : Planned) (area next : List ℕ)
     (says : meaning r ≡ answer outcome) (leaves : next ≡ areaAfter outcome area) where
-  of-plan : (P : ℕ → Type 0) → ((p : Plan) → outcome ≡ accepted p → Fine P p) → OfPlan r next P
+  of-plan : (P : ℕ → Type 0) → ((p : Plan) → outcome ≡ accepted p → HasSet P p) → OfPlan r next P
   unfolding areaAfter
   of-plan P made bytes moves e =
       let a = answered outcome _ (sym (ap meaning e) ∙ says) in
@@ -55,12 +55,16 @@ module _ (outcome : Answer Plan) (r : Planned) (area next : List ℕ)
       ap₂ planSet there long ∙ plan-set (f .instance) (f .set) (f .total) (f .moves) area (f .few) (f .small) in
       subst P (sym read-off) (f .holds)
 
--- ---- the open plan
+-- ---- the sets that the searches end in
+
+facilities-are : (s : List ℕ) → instanceOf s .facilities ≡ yards s
+unfolding instanceOf instanceBy
+facilities-are s = refl
 
 module _ (s : List ℕ) (w : WithinBounds (instanceOf s)) where
-  open-fine : (P : ℕ → Type 0) → P (openSearch (instanceOf s) (openStart (instanceOf s)) .set) → Fine P (openPlan (instanceOf s))
+  open-set : (P : ℕ → Type 0) → P (openSearch (instanceOf s) (openStart (instanceOf s)) .set) → HasSet P (openPlan (instanceOf s))
   unfolding openPlan
-  open-fine P holds =
+  open-set P holds =
       record {
         instance = instanceOf s;
         set = _;
@@ -72,10 +76,10 @@ module _ (s : List ℕ) (w : WithinBounds (instanceOf s)) where
         holds = holds;
       }
 
-  limited-fine : (k : ℕ) → k ≤ instanceOf s .facilities → (P : ℕ → Type 0)
-      → P (limitedSearch (instanceOf s) (limitedStart k) .set) → Fine P (limitedPlan (instanceOf s) k)
+  limited-set : (k : ℕ) → k ≤ instanceOf s .facilities → (P : ℕ → Type 0)
+      → P (limitedSearch (instanceOf s) (limitedStart k) .set) → HasSet P (limitedPlan (instanceOf s) k)
   unfolding limitedPlan
-  limited-fine k within P holds =
+  limited-set k within P holds =
       record {
         instance = instanceOf s;
         set = _;
@@ -95,22 +99,17 @@ module _ (s : List ℕ) (w : WithinBounds (instanceOf s)) where
   unfolding limitedSearch instanceOf instanceBy
   limited-no-lower k = search-ends (limitedCost (instanceOf s)) (swaps (yards s)) (limitedStart k) .no-lower
 
-  -- what an instance's facilities are
-  facilities-are : instanceOf s .facilities ≡ yards s
-  unfolding instanceOf instanceBy
-  facilities-are = refl
-
   open-within : BesideAnyRival s (openSearch (instanceOf s) (openStart (instanceOf s)) .set)
   unfolding totalCost
   open-within rival some =
-      let b = open-plan-bound (instanceOf s) (w .is-metric) (w .some-facilities) rival (rw facilities-are some) in
+      let b = open-plan-bound (instanceOf s) (w .is-metric) (w .some-facilities) rival (rw (facilities-are s) some) in
       record { hauls = b .service; fees = b .opening; total = omega (arith, b .service, b .opening) }
 
   limited-within : (k : ℕ) → k ≤ instanceOf s .facilities → BesideRivalsOf s k (limitedSearch (instanceOf s) (limitedStart k) .set)
   limited-within k within rival some few =
       let a = arg-least (yards s) rival (λ i. 0) some in
       limited-plan-bound (instanceOf s) (w .is-metric) k within rival
-      (rw facilities-are (count-some (yards s) _ rival (a .below) (a .is-in))) (rw facilities-are few)
+      (rw (facilities-are s) (count-some (yards s) _ rival (a .below) (a .is-in))) (rw (facilities-are s) few)
 
 -- ---- the promises of the calls
 
@@ -120,7 +119,7 @@ module _ (s : List ℕ) (r : Planned) (area next : List ℕ) where
     open-of P holds =
         of-plan (openPlanning s (length area)) r area next says leaves P
         (λ p e. let h = open-when s (length area) p e in let w = door s (h .0) (h .1) (h .2) in
-        rw (h .3) (open-fine s w P (holds w)))
+        rw (h .3) (open-set s w P (holds w)))
 
     pub open-settled : OpenSettled s r next
     open-settled = open-of (NoOpenMove s) (open-no-lower s)
@@ -135,8 +134,8 @@ module _ (s : List ℕ) (r : Planned) (area next : List ℕ) where
     limited-of P holds =
         of-plan (limitedPlanning s k (length area)) r area next says leaves P
         (λ p e. let h = limited-when s k (length area) p e in let w = door s (h .0) (h .1) (h .2) in
-        let within : k ≤ instanceOf s .facilities = rw (facilities-are s w, accepts s (h .0) (h .1) (h .2) .has .yards-are) (h .3) in
-        rw (h .4) (limited-fine s w k within P (holds w within)))
+        let within : k ≤ instanceOf s .facilities = rw (facilities-are s, accepts s (h .0) (h .1) (h .2) .has .yards-are) (h .3) in
+        rw (h .4) (limited-set s w k within P (holds w within)))
 
     pub limited-settled : LimitedSettled s r next
     limited-settled = limited-of (NoLimitedMove s) (λ w within. limited-no-lower s w k)

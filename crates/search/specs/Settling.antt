@@ -5,6 +5,7 @@ use mathlib.Core.List.{List}
 use Rattle.model.specs.Instance.{Instance}
 use Rattle.model.specs.Neighbours.{swaps, addDropSwap}
 use Rattle.model.specs.Search.{Reached}
+use Rattle.model.specs.Plans.{openCost, openStart, openSearch, limitedCost, limitedStart, limitedSearch}
 use Rattle.price.specs.Pricing.{Plan, plan}
 use Rattle.search.specs.Tables.{Tables, tableCost}
 use Rattle.search.specs.declared.moves.Priced.{Priced}
@@ -28,6 +29,13 @@ neighboursBy Swap m set = swaps m set
 -- what a search reached, with the cost of its set
 unfoldable pub settledAt : (ℕ → ℕ) → Reached → Settled
 settledAt cost r = record { set = r .set; cost = cost (r .set); moves = r .steps }
+
+-- where document 01's searches end: from the single facility of least cost, and from the first k
+unfoldable pub openEnd : Instance → Settled
+openEnd I = settledAt (openCost I) (openSearch I (openStart I))
+
+unfoldable pub limitedEnd : Instance → ℕ → Settled
+limitedEnd I k = settledAt (limitedCost I) (limitedSearch I (limitedStart k))
 
 -- the plan of the set that a search settled on
 unfoldable pub planOf : Instance → Settled → Plan

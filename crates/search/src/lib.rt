@@ -12,14 +12,14 @@ ghost use mathlib.Core.Path.{_≡_};
 ghost use mathlib.Core.Bool.{true};
 ghost use Prim.Native.Nat.{_*_, _^_, _≤_, _<_};
 ghost use lib.ListN.{length};
-ghost use Rattle.model.specs.Plans.{openCost, openStart, openSearch, limitedCost, limitedStart, limitedSearch};
+ghost use Rattle.model.specs.Plans.{limitedStart};
 ghost use Rattle.sheet.specs.Sheet.{instanceBy};
 ghost use Rattle.sheet.specs.Shape.{Shape};
 ghost use Rattle.sheet.specs.Answers.{accepted};
 ghost use Rattle.price.specs.Plan.{question9};
 ghost use Rattle.price.specs.Pricing.{meaning, answer, areaAfter};
 ghost use Rattle.search.specs.Tables.{Zeros};
-ghost use Rattle.search.specs.Settling.{settledAt, planOf};
+ghost use Rattle.search.specs.Settling.{openEnd, limitedEnd, planOf};
 ghost use Rattle.search.specs.Planning.{openPlanning, limitedPlanning};
 ghost use Rattle.search.specs.Promises.{OpenSettled, OpenBounded, LimitedSettled, LimitedBounded};
 use moves::Moves;
@@ -73,7 +73,7 @@ pub fn limited_plan(sheet: &[u8], k: usize, area: &mut [u8]) -> Planned
 // The search of the open plan, by the sheet's fees and hauls.
 fn open_search(sheet: &[u8], m: usize, n: usize) -> Settled
     requires { ⌜ Shape (now sheet) m n × (1 ≤ m) ⌝ }
-    ensures { λ r. ⌜ r ≡ settledAt (openCost (instanceBy (now (sheet .entry)) m n)) (openSearch (instanceBy (now (sheet .entry)) m n) (openStart (instanceBy (now (sheet .entry)) m n))) ⌝ }
+    ensures { λ r. ⌜ r ≡ openEnd (instanceBy (now (sheet .entry)) m n) ⌝ }
 {
     let mut opening = [0u32; 32];
     let mut service = [0u32; 4096];
@@ -89,7 +89,7 @@ fn open_search_on(
     service: &mut [u32],
 ) -> Settled
     requires { ⌜ Shape (now sheet) m n × (1 ≤ m) × (m ≤ length (now opening)) × (n * m ≤ length (now service)) ⌝ }
-    ensures { λ r. ⌜ r ≡ settledAt (openCost (instanceBy (now (sheet .entry)) m n)) (openSearch (instanceBy (now (sheet .entry)) m n) (openStart (instanceBy (now (sheet .entry)) m n))) ⌝ }
+    ensures { λ r. ⌜ r ≡ openEnd (instanceBy (now (sheet .entry)) m n) ⌝ }
 {
     tables::fill(sheet, 0, m, opening);
     tables::fill(sheet, m, n * m, service);
@@ -108,7 +108,7 @@ fn first_yards(k: usize) -> u32
 // The search of the limited plan, by the sheet's hauls: every opening cost is 0.
 fn limited_search(sheet: &[u8], m: usize, n: usize, k: usize) -> Settled
     requires { ⌜ Shape (now sheet) m n × (k ≤ m) ⌝ }
-    ensures { λ r. ⌜ r ≡ settledAt (limitedCost (instanceBy (now (sheet .entry)) m n)) (limitedSearch (instanceBy (now (sheet .entry)) m n) (limitedStart k)) ⌝ }
+    ensures { λ r. ⌜ r ≡ limitedEnd (instanceBy (now (sheet .entry)) m n) k ⌝ }
 {
     let opening = [0u32; 32];
     let mut service = [0u32; 4096];
@@ -125,7 +125,7 @@ fn limited_search_on(
     service: &mut [u32],
 ) -> Settled
     requires { ⌜ Shape (now sheet) m n × (k ≤ m) × (m ≤ length (now opening)) × Zeros m (now opening) × (n * m ≤ length (now service)) ⌝ }
-    ensures { λ r. ⌜ r ≡ settledAt (limitedCost (instanceBy (now (sheet .entry)) m n)) (limitedSearch (instanceBy (now (sheet .entry)) m n) (limitedStart k)) ⌝ }
+    ensures { λ r. ⌜ r ≡ limitedEnd (instanceBy (now (sheet .entry)) m n) k ⌝ }
 {
     tables::fill(sheet, m, n * m, service);
     let start = moves::priced_set(opening, service, m, n, first_yards(k));
