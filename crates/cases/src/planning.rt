@@ -13,6 +13,9 @@ use sheet::Record;
 
 const PATTERN: u8 = 0xa5;
 
+// One record more than the largest plan.
+const SPACE: usize = 1304;
+
 fn fill(area: &mut [u8]) {
     let n = area.len();
     let mut i = 0;
@@ -119,17 +122,17 @@ fn lent(space: &mut [u8], n: usize) -> &mut [u8] {
 
 // Pricing, with an area of so many bytes.
 fn price_case(name: &[u8], sheet: &[u8], set: u32, room: usize) {
-    let mut space = [0u8; 1304];
+    let mut space = [0u8; SPACE];
     price_in(name, sheet, set, lent(&mut space, room));
 }
 
 fn open_case(name: &[u8], sheet: &[u8], room: usize) {
-    let mut space = [0u8; 1304];
+    let mut space = [0u8; SPACE];
     open_in(name, sheet, lent(&mut space, room));
 }
 
 fn limited_case(name: &[u8], sheet: &[u8], k: usize, room: usize) {
-    let mut space = [0u8; 1304];
+    let mut space = [0u8; SPACE];
     limited_in(name, sheet, k, lent(&mut space, room));
 }
 

@@ -10,7 +10,7 @@ use Rattle.model.specs.Loops.{on, sum}
 use Rattle.model.specs.Sets.{sumOn, count, plus, minus}
 use Rattle.model.proofs.Bools.{cases, and-left, Eq?, same, diff, test, Lt?, less, more, test<}
 use Rattle.model.proofs.TestSetLaws.{minus-in}
-use Rattle.model.proofs.SumLaws.{sum-mono, sum-cong, sum-add, sum-term, sum-one, on-or-le, on-split}
+use Rattle.model.proofs.SumLaws.{sum-bound, sum-mono, sum-cong, sum-add, sum-term, sum-one, on-le, on-or-le, on-split}
 
 -- nothing is summed over a set without members
 pub count-zero : (m : ℕ) (S : ℕ → Bool) (w : ℕ → ℕ) → count m S ≡ 0 → sumOn m S w ≡ 0
@@ -33,6 +33,9 @@ count-find (suc m) S h =
 -- and a set with a member is counted
 pub count-some : (m i : ℕ) (S : ℕ → Bool) → i < m → S i ≡ true → 1 ≤ count m S
 count-some m i S h e = let t = sum-term m (λ k. on (S k) 1) i h in rw e at t
+
+pub count-le : (m : ℕ) (S : ℕ → Bool) → count m S ≤ m
+count-le m S = omega (arith, sum-bound m 1 (λ i. on (S i) 1) (λ i l. on-le (S i) 1))
 
 pub count-cong : (m : ℕ) (S T : ℕ → Bool) → ((i : ℕ) → i < m → S i ≡ T i) → count m S ≡ count m T
 count-cong m S T h = sum-cong m (λ i l. ap (λ (b : Bool). on b 1) (h i l))

@@ -9,6 +9,12 @@ use price::KIND_TOTAL;
 use price::Planned;
 use sheet::Record;
 
+// One byte more than the longest sheet, so that a longer one is refused and not cut.
+const INPUT: usize = 33025;
+
+// The records of 32 yards, 128 farms, the total and the moves.
+const AREA: usize = 1296;
+
 fn text(bytes: &[u8]) {
     io::write_all(STDOUT_FILENO, bytes);
 }
@@ -56,8 +62,7 @@ fn print_refusal(k: u8) {
 }
 
 fn plan_of(sheet: &[u8]) {
-    // The records of 32 yards, 128 farms, the total and the moves.
-    let mut area = [0u8; 1296];
+    let mut area = [0u8; AREA];
     match search::open_plan(sheet, &mut area) {
         Planned::Written { bytes, moves: _ } => print_plan(&area, bytes),
         Planned::Refused(k) => print_refusal(k),
@@ -71,10 +76,9 @@ fn at_end() -> bool {
 }
 
 fn main() {
-    // One byte more than the longest sheet, so that a longer one is refused and not cut.
-    let mut input = [0u8; 33025];
+    let mut input = [0u8; INPUT];
     let n = io::read_full(STDIN_FILENO, &mut input);
-    if n < 33025 && !at_end() {
+    if n < INPUT && !at_end() {
         io::write_all(STDERR_FILENO, b"plan: the sheet could not be read\n");
         return;
     }

@@ -12,7 +12,8 @@ use Rattle.model.specs.Loops.{on, sum, join}
 use Rattle.model.specs.Sets.{count, member}
 use Rattle.model.specs.Instance.{Instance, nearest, assigned}
 use Rattle.model.proofs.Bools.{cases, and-left, and-right}
-use Rattle.model.proofs.SumLaws.{sum-bound, on-le}
+use Rattle.model.proofs.SumLaws.{on-le}
+use Rattle.model.proofs.CountLaws.{count-le}
 use Rattle.sheet.specs.Records.{recordOf, recordAt, wholeRecordAt, bytesOf, splice}
 use Rattle.sheet.specs.declared.record.Record.{Record}
 use Rattle.sheet.specs.Sheet.{fee, instanceBy}
@@ -65,9 +66,6 @@ module _ (I : Instance) (set : ℕ) where
   farms-length zero = refl
   farms-length (suc n) =
       omega (arith, length-append (join n (farmRecord I set)) (farmRecord I set n), farms-length n, farm-length n)
-
-count-le : (m : ℕ) (S : ℕ → Bool) → count m S ≤ m
-count-le m S = omega (arith, sum-bound m 1 (λ i. on (S i) 1) (λ i l. on-le (S i) 1))
 
 -- ---- the parts of a sheet's plan
 

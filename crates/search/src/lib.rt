@@ -7,7 +7,6 @@ mod descent;
 mod moves;
 mod tables;
 
-pub use descent::Settled;
 ghost use mathlib.Core.Path.{_≡_};
 ghost use mathlib.Core.Bool.{true};
 ghost use Prim.Native.Nat.{_*_, _^_, _≤_, _<_};
@@ -22,9 +21,14 @@ ghost use Rattle.search.specs.Tables.{Zeros};
 ghost use Rattle.search.specs.Settling.{openEnd, limitedEnd, planOf};
 ghost use Rattle.search.specs.Planning.{openPlanning, limitedPlanning};
 ghost use Rattle.search.specs.Promises.{OpenSettled, OpenBounded, LimitedSettled, LimitedBounded};
+use descent::Settled;
 use moves::Moves;
 use price::Planned;
+use sheet::MOST_YARDS;
 use sheet::Reading;
+
+// Of 32 yards and 128 farms.
+const MOST_HAULS: usize = 4096;
 
 // Writes the open plan of a sheet to the front of the area. A refused call leaves the area as it was.
 pub fn open_plan(sheet: &[u8], area: &mut [u8]) -> Planned
@@ -75,8 +79,8 @@ fn open_search(sheet: &[u8], m: usize, n: usize) -> Settled
     requires { ⌜ Shape (now sheet) m n × (1 ≤ m) ⌝ }
     ensures { λ r. ⌜ r ≡ openEnd (instanceBy (now (sheet .entry)) m n) ⌝ }
 {
-    let mut opening = [0u32; 32];
-    let mut service = [0u32; 4096];
+    let mut opening = [0u32; MOST_YARDS];
+    let mut service = [0u32; MOST_HAULS];
     open_search_on(sheet, m, n, &mut opening, &mut service)
 }
 
@@ -110,8 +114,8 @@ fn limited_search(sheet: &[u8], m: usize, n: usize, k: usize) -> Settled
     requires { ⌜ Shape (now sheet) m n × (k ≤ m) ⌝ }
     ensures { λ r. ⌜ r ≡ limitedEnd (instanceBy (now (sheet .entry)) m n) k ⌝ }
 {
-    let opening = [0u32; 32];
-    let mut service = [0u32; 4096];
+    let opening = [0u32; MOST_YARDS];
+    let mut service = [0u32; MOST_HAULS];
     limited_search_on(sheet, m, n, k, &opening, &mut service)
 }
 

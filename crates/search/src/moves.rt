@@ -113,10 +113,10 @@ fn best_add(opening: &[u32], service: &[u32], m: usize, n: usize, set: u32, star
     ensures { λ r. ⌜ r ≡ priced (tableCost m n (now (opening .entry)) (now (service .entry))) (best (tableCost m n (now (opening .entry)) (now (service .entry))) (start .set) (adds m set)) ⌝ }
 {
     let mut b = start;
-    let mut i = 0;
-    while i < m {
-        b = try_add(opening, service, m, n, set, i, b);
-        i += 1;
+    let mut into = 0;
+    while into < m {
+        b = try_add(opening, service, m, n, set, into, b);
+        into += 1;
     }
     b
 }
