@@ -5,6 +5,7 @@ use crate::sheets::front;
 use crate::sheets::haul;
 use crate::sheets::put_dropping;
 use crate::sheets::put_farms;
+use crate::sheets::put_lowest;
 use crate::sheets::put_s;
 use crate::sheets::put_yards;
 use crate::sheets::yard;
@@ -38,7 +39,7 @@ fn unchanged(area: &[u8], from: usize) -> bool {
     true
 }
 
-// A record as its kind, which is a letter, its numbers, byte 3 where it is not zero, and its amount.
+// A record as its kind, which is a letter, its numbers, a mark where byte 3 is not zero, and its amount.
 fn print_record(record: Record) {
     text(b"; ");
     let letter = [record.kind];
@@ -54,9 +55,9 @@ fn print_record(record: Record) {
     number(record.amount as u64);
 }
 
-fn print_records(area: &[u8], bytes: usize) {
+fn print_records(area: &[u8], from: usize, bytes: usize) {
     let n = bytes / Record::LEN;
-    let mut i = 0;
+    let mut i = from;
     while i < n {
         print_record(Record::at(area, i));
         i += 1;
@@ -71,7 +72,15 @@ fn print_rest(area: &[u8], from: usize) {
     }
 }
 
-// What a call answered and left, with the records of the plan where they are few.
+// The first record to print: of a long plan the total's.
+fn first_shown(bytes: usize) -> usize {
+    if bytes < 100 {
+        return 0;
+    }
+    bytes / Record::LEN - 2
+}
+
+// What a call answered and left, with the records of the plan where they are few, else the last two.
 fn print_answer(name: &[u8], answer: Planned, area: &[u8]) {
     text(name);
     match answer {
@@ -80,9 +89,7 @@ fn print_answer(name: &[u8], answer: Planned, area: &[u8]) {
             number(bytes as u64);
             text(b", moves ");
             number(moves as u64);
-            if bytes < 100 {
-                print_records(area, bytes);
-            }
+            print_records(area, first_shown(bytes), bytes);
             print_rest(area, bytes);
         }
         Planned::Refused(k) => {
@@ -206,6 +213,13 @@ fn dropping() {
     limited_case(b"the same sheet, k = 2", &sheet, 2, 80);
 }
 
+// A sheet on which the first lowering move is not the lowest.
+fn lowest() {
+    let mut sheet = [0u8; 160];
+    put_lowest(&mut sheet);
+    open_case(b"the lowest move is taken, open plan", &sheet, 80);
+}
+
 fn largest_calls(sheet: &[u8]) {
     open_case(b"32 yards, 128 farms, open plan", sheet, 1304);
     limited_case(b"32 yards, 128 farms, k = 32", sheet, 32, 1304);
@@ -228,6 +242,7 @@ pub(crate) fn all() {
     areas(&sheet);
     questions(&sheet);
     dropping();
+    lowest();
     unread_sheets();
     largest();
 }

@@ -123,3 +123,13 @@ pub(crate) fn put_dropping(area: &mut [u8]) {
     put_four(area, 96, 2, 9, 4, 8, 2);
     put_four(area, 128, 3, 12, 1, 11, 5);
 }
+
+// Four yards and four farms. The lowest move adds yard 0 to 3, which ends the search; by the first lowering moves it would end in
+// yards 1, 2 and 3.
+pub(crate) fn put_lowest(area: &mut [u8]) {
+    put_four_yards(area, 3, 1, 2, 0);
+    put_four(area, 32, 0, 2, 5, 2, 4);
+    put_four(area, 64, 1, 3, 2, 3, 1);
+    put_four(area, 96, 2, 2, 5, 2, 4);
+    put_four(area, 128, 3, 2, 1, 4, 4);
+}

@@ -38,6 +38,15 @@ example-start : openStart example ≡ 2
 unfolding example openStart openCost totalCost openingCost serviceCost nearest member least arg any sum
 example-start = refl
 
+-- the sets 2, 6, 7 and 5 are {1}, {1, 2}, {0, 1, 2} and {0, 2}
+example-costs : (openCost example 2 ≡ 13) × (openCost example 6 ≡ 11) × (openCost example 7 ≡ 10) × (openCost example 5 ≡ 10)
+unfolding example openCost totalCost openingCost serviceCost nearest member least any sum
+example-costs = (refl, refl, refl, refl)
+
+example-steps : (next (openCost example) (addDropSwap 3) 2 ≡ 6) × (next (openCost example) (addDropSwap 3) 6 ≡ 7)
+unfolding example openCost totalCost openingCost serviceCost nearest member least any sum next best better addDropSwap adds addAt drops dropAt swaps swapsOut swapAt with without join
+example-steps = (refl, refl)
+
 example-open : openSearch example 2 ≡ reached 7 2
 unfolding example openSearch openCost totalCost openingCost serviceCost nearest member least any sum search descend next best better addDropSwap adds addAt drops dropAt swaps swapsOut swapAt with without join
 example-open = refl

@@ -11,7 +11,7 @@ use mathlib.Core.Bool.{Bool, true, false, cond, _&&_, and-false, true≢false}
 use mathlib.Core.List.{List, [], _++_}
 use borrow.Author.Tests.{eq-eqb, ne-eqb, eqb-true}
 use lib.Dec.{eqb}
-use Rattle.model.specs.Loops.{allBelow, leading, fold, join}
+use Rattle.model.specs.Loops.{allBelow, leading, join}
 use Rattle.model.proofs.Bools.{cases, clash, cond-le}
 
 -- a number below m + 1 is m or below m
@@ -100,16 +100,6 @@ leading-holds p (suc n) i l = go (eqb (leading n p) n) (p n) (eqb-true (leading 
     go true true w e ih k = elim (last-or k) [ inl last ↦ rw last e | inr early ↦ let r = w refl in ih (omega arith) ]
     go true false w e ih k = let r = w refl in ih (omega arith)
     go false here w e ih k = ih k
-
--- ---- fold
-
-pub fold-none : {A : Type 0} (f : ℕ → A → A) (b : A) → b ≡ fold 0 f b
-unfolding fold
-fold-none f b = refl
-
-pub fold-more : {A : Type 0} (f : ℕ → A → A) (b : A) (i : ℕ) → fold (i + 1) f b ≡ f i (fold i f b)
-unfolding fold
-fold-more f b i = rw add-one
 
 -- ---- join
 

@@ -1,5 +1,5 @@
 -- Laws of document 01's searches: their starts are sets of facilities, and so is what they end in; how the open start is found; and
--- that they depend on costs alone.
+-- that it depends on costs alone.
 use Prim.Native.Nat.{ℕ, _+_, _^_, _≤_, _<_}
 use native.Mathlib.Numerals.{add-one}
 use native.Mathlib.Omega.{arith}
@@ -11,13 +11,13 @@ use Rattle.model.specs.Least.{any, arg}
 use Rattle.model.specs.Sets.{count, member}
 use Rattle.model.specs.Instance.{Instance}
 use Rattle.model.specs.Neighbours.{swaps, addDropSwap}
-use Rattle.model.specs.Search.{better, search}
+use Rattle.model.specs.Search.{better}
 use Rattle.model.specs.Plans.{openCost, openStart, openSearch, limitedCost, limitedStart, limitedSearch}
 use Rattle.model.proofs.Bools.{eqb-self}
 use Rattle.model.proofs.LeastLaws.{any-of, arg-least}
 use Rattle.model.proofs.SetLaws.{member-single, count-ones}
 use Rattle.model.proofs.NeighbourLaws.{moves-keep, swaps-keep}
-use Rattle.model.proofs.SearchLaws.{search-keeps, search-cong}
+use Rattle.model.proofs.SearchLaws.{search-keeps}
 
 pub open-start : (I : Instance) → 1 ≤ I .facilities
     → (openStart I < 2 ^ I .facilities) × (any (I .facilities) (member (openStart I)) ≡ true)
@@ -79,15 +79,8 @@ start-more cost i some =
     raised true x y = refl
     raised false x y = refl
 
--- ---- instances of as many facilities, with the same costs, have the same open search
+-- ---- instances of as many facilities, with the same costs, have the same open start
 
-module _ (I J : Instance) (same-m : I .facilities ≡ J .facilities) (same-cost : (set : ℕ) → openCost I set ≡ openCost J set) where
-  pub same-start : openStart I ≡ openStart J
-  unfolding openStart
-  same-start = ap₂ (λ m cost. 2 ^ arg m (λ i. true) (λ i. cost (2 ^ i))) same-m (fun-ext same-cost)
-
-  pub same-search : openSearch I (openStart I) ≡ openSearch J (openStart J)
-  unfolding openSearch
-  same-search =
-      search-cong (addDropSwap (I .facilities)) (openStart I) same-cost
-      ∙ ap₂ (λ m start. search (openCost J) (addDropSwap m) start) same-m same-start
+pub same-start : (I J : Instance) → I .facilities ≡ J .facilities → ((set : ℕ) → openCost I set ≡ openCost J set) → openStart I ≡ openStart J
+unfolding openStart
+same-start I J same-m same-cost = ap₂ (λ m cost. 2 ^ arg m (λ i. true) (λ i. cost (2 ^ i))) same-m (fun-ext same-cost)

@@ -5,17 +5,15 @@ use native.Mathlib.Nat.{le-refl, le-trans, zero-add, suc-add, add-suc, add-zero}
 use native.Mathlib.Numerals.{add-one}
 use native.Mathlib.Omega.{arith}
 use native.Mathlib.Decide.{decLt}
-use mathlib.Core.Path.{_≡_, refl, sym, ap, subst, fun-ext, _∙_}
+use mathlib.Core.Path.{_≡_, refl, sym, ap, subst, _∙_}
 use mathlib.Core.Logic.{inl, inr}
 use mathlib.Core.Bool.{Bool, true, false, cond}
 use mathlib.Core.List.{List, [], _∷_, _++_, List·Memᴰ·head, Memᴰ·append-right, List·Memᴰ·cases-cons, List·Memᴰ·not-nil}
 use borrow.Author.Tests.{lt-ltb, le-ltb}
 use lib.Dec.{ltb}
-use Rattle.model.specs.Loops.{join}
 use Rattle.model.specs.Search as Search
 use Rattle.model.specs.Search.{Among, Reached, reached, better, best, NoLower, Earliest}
 use Rattle.model.proofs.Bools.{Lt?, less, more, test<}
-use Rattle.model.proofs.LoopLaws.{join-more}
 
 module _ (cost : ℕ → ℕ) where
   -- ---- the best of a list
@@ -47,9 +45,6 @@ module _ (cost : ℕ → ℕ) where
   unfolding best
   best-append b [] ys = refl
   best-append b (x ∷ xs) ys = best-append (better cost x b) xs ys
-
-  pub best-join : (b : ℕ) (f : ℕ → List ℕ) (i : ℕ) → best cost b (join (i + 1) f) ≡ best cost (best cost b (join i f)) (f i)
-  best-join b f i = rw (join-more f i) (best-append b (join i f) (f i))
 
   better-lower : (x b : ℕ) → cost x < cost b → better cost x b ≡ x
   unfolding better
@@ -260,8 +255,3 @@ module _ (cost : ℕ → ℕ) where
         ∙ sym (descend-adds limit (cost start) start 0) ∙ fuel-enough (limit + cost start) start 0 (omega arith)
         in
         (ap (λ (r : Reached). r .set) e, ap (λ (r : Reached). r .steps) e)
-
--- costs that agree give the same search
-pub search-cong : {c d : ℕ → ℕ} (neighbours : ℕ → List ℕ) (start : ℕ) → ((set : ℕ) → c set ≡ d set)
-    → Search.search c neighbours start ≡ Search.search d neighbours start
-search-cong neighbours start agree = ap (λ cost. Search.search cost neighbours start) (fun-ext agree)

@@ -98,6 +98,17 @@ member-below m set i small e =
       | no g ↦ absurd (omega (arith, member-le set i e, pow-mono {i = m} {j = i} (omega arith)))
     ]
 
+-- and back: a set of w bits without a member from m on is below 2 ^ m
+pub below-pow : (w m set : ℕ) → set < 2 ^ w → ((i : ℕ) → m ≤ i → member set i ≡ false) → set < 2 ^ m
+below-pow zero m set small none = omega (arith, pow-pos m)
+below-pow (suc w) zero set small none =
+    let half = below-pow w zero (set / 2) (omega (arith, pow-succ' 2 w)) (λ i l. sym (member-suc set i) ∙ none (suc i) (omega arith)) in
+    let even = eqb-false (set % 2) 1 (sym (member-zero set) ∙ none 0 (omega arith)) in
+    omega (arith, mod-lt set {m = 2} (omega arith))
+below-pow (suc w) (suc m) set small none =
+    let half = below-pow w m (set / 2) (omega (arith, pow-succ' 2 w)) (λ i l. sym (member-suc set i) ∙ none (suc i) (omega arith)) in
+    omega (arith, pow-succ' 2 m)
+
 pub with-below : (m set i : ℕ) → set < 2 ^ m → i < m → with set i < 2 ^ m
 with-below zero set i small l = absurd (omega arith)
 with-below (suc m) set zero small l = omega (arith, with-last set, pow-succ' 2 m)

@@ -1,6 +1,6 @@
 -- Laws of finite sums.
 use Prim.Native.Nat.{ℕ, zero, suc, _+_, _*_, _≤_, _<_, zero-le}
-use native.Mathlib.Nat.{le-refl, le-suc, le-trans, le-step, lt-suc-self, add-le-add, not-suc-le-zero, eq-or-lt-of-le}
+use native.Mathlib.Nat.{le-refl, le-suc, le-trans, le-step, lt-suc-self, add-le-add, not-suc-le-zero}
 use native.Mathlib.Numerals.{add-one}
 use native.Mathlib.Omega.{arith}
 use mathlib.Core.Path.{_≡_, refl, sym, ap, ap₂, _∙_}
@@ -32,12 +32,6 @@ module _ (f : ℕ → ℕ) where
 
   pub summed-more : (total i x : ℕ) → Summed f total i → x ≡ f i → x ≤ 4294967296 → Summed f (total + x) (i + 1)
   summed-more total i x h e small = record { exact = rw (h .exact, e) (sym (sum-more f i)); small = omega (arith, h .small) }
-
--- a sum so far is at most the whole
-pub sum-prefix : (i n : ℕ) (f : ℕ → ℕ) → i ≤ n → sum i f ≤ sum n f
-unfolding sum
-sum-prefix i zero f h = let e : i ≡ 0 = omega arith in rw e (le-refl 0)
-sum-prefix i (suc n) f h = elim (eq-or-lt-of-le h) [ inl e ↦ rw e (le-refl (sum n f + f n)) | inr l ↦ omega (arith, sum-prefix i n f (omega arith)) ]
 
 -- n terms of at most b
 pub sum-bound : (n b : ℕ) (f : ℕ → ℕ) → ((i : ℕ) → i < n → f i ≤ b) → sum n f ≤ n * b

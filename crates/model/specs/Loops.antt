@@ -1,4 +1,4 @@
--- What loops compute: a test of every index, the leading run, a sum, a fold, a join of lists.
+-- What loops compute: a test of every index, the leading run, a sum, a join of lists.
 use Prim.Native.Nat.{ℕ, zero, suc, _+_}
 use mathlib.Core.Bool.{cond, Bool, true, false, _&&_}
 use mathlib.Core.List.{List, [], _++_}
@@ -23,11 +23,6 @@ leading (suc n) p = cond (eqb (leading n p) n) (cond (p n) (suc n) n) (leading n
 unfoldable pub sum : ℕ → (ℕ → ℕ) → ℕ
 sum zero f = 0
 sum (suc n) f = sum n f + f n
-
--- f (n - 1) (.. (f 1 (f 0 b)))
-unfoldable pub fold : {A : Type 0} → ℕ → (ℕ → A → A) → A → A
-fold zero f b = b
-fold (suc n) f b = f n (fold n f b)
 
 -- f 0 ++ f 1 ++ .. ++ f (n - 1)
 unfoldable pub join : ℕ → (ℕ → List ℕ) → List ℕ

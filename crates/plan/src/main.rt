@@ -7,13 +7,16 @@ use price::KIND_MOVES;
 use price::KIND_OPEN;
 use price::KIND_TOTAL;
 use price::Planned;
+use sheet::MOST_BYTES;
+use sheet::MOST_FARMS;
+use sheet::MOST_YARDS;
 use sheet::Record;
 
 // One byte more than the longest sheet, so that a longer one is refused and not cut.
-const INPUT: usize = 33025;
+const INPUT: usize = MOST_BYTES + 1;
 
 // The records of 32 yards, 128 farms, the total and the moves.
-const AREA: usize = 1296;
+const AREA: usize = Record::LEN * (MOST_YARDS + MOST_FARMS + 2);
 
 fn text(bytes: &[u8]) {
     io::write_all(STDOUT_FILENO, bytes);

@@ -35,8 +35,8 @@ module _ (isOpen : Bool) (yard haul : ℕ) (b : Nearest) where
   unfolding closer
   takes e = rw e
 
-  pub closer-shut : isOpen ≡ false → b ≡ closer isOpen yard haul b
-  closer-shut o = keeps (rw o)
+  pub closer-closed : isOpen ≡ false → b ≡ closer isOpen yard haul b
+  closer-closed o = keeps (rw o)
 
   pub closer-stays : b .found ≡ true → leb (b .haul) haul ≡ true → b ≡ closer isOpen yard haul b
   closer-stays e h = keeps (rw (e, le-ltb haul (b .haul) (leb-true (b .haul) haul h)) (and-false isOpen))

@@ -31,19 +31,19 @@ use Rattle.price.proofs.WriteLaws.{splice-three}
 -- ---- the parts
 
 module _ (I : Instance) (set : ℕ) where
-  pub open-shut : (i : ℕ) → member set i ≡ false → openRecord I set i ≡ []
+  pub closed-record : (i : ℕ) → member set i ≡ false → openRecord I set i ≡ []
   unfolding openRecord
-  open-shut i e = rw e
+  closed-record i e = rw e
 
-  pub open-lit : (i : ℕ) → member set i ≡ true → openRecord I set i ≡ bytesOf (recordOf 0x4F i 0 0 (I .opening i))
+  pub opened-record : (i : ℕ) → member set i ≡ true → openRecord I set i ≡ bytesOf (recordOf 0x4F i 0 0 (I .opening i))
   unfolding openRecord
-  open-lit i e = rw e
+  opened-record i e = rw e
 
   open-length : (i : ℕ) → length (openRecord I set i) ≡ 8 * on (member set i) 1
   open-length i =
       cases (member set i)
-      (λ e. ap length (open-lit i e) ∙ length-bytes (recordOf 0x4F i 0 0 (I .opening i)) ∙ ap (λ (b : Bool). 8 * on b 1) (sym e))
-      (λ e. ap length (open-shut i e) ∙ ap (λ (b : Bool). 8 * on b 1) (sym e))
+      (λ e. ap length (opened-record i e) ∙ length-bytes (recordOf 0x4F i 0 0 (I .opening i)) ∙ ap (λ (b : Bool). 8 * on b 1) (sym e))
+      (λ e. ap length (closed-record i e) ∙ ap (λ (b : Bool). 8 * on b 1) (sym e))
 
   pub open-short : (i : ℕ) → length (openRecord I set i) ≤ 8
   open-short i = omega (arith, open-length i, on-le (member set i) 1)
@@ -76,7 +76,7 @@ module _ (s : List ℕ) (m n set : ℕ) where
   unfolding instanceBy fee
   open-on shape i l e r h =
       let on-sheet : r ≡ recordAt s i = h ∙ whole s i (omega (arith, shape .room)) in
-      open-lit (instanceBy s m n) set i e ∙ ap (λ (x : Record). bytesOf (recordOf 0x4F i 0 0 (x .amount))) (sym on-sheet)
+      opened-record (instanceBy s m n) set i e ∙ ap (λ (x : Record). bytesOf (recordOf 0x4F i 0 0 (x .amount))) (sym on-sheet)
 
   -- a farm's record has the yard and the haul that are nearest on the farm's stretch
   pub farm-on : Shape s m n → (p : ℕ) → p < n → (hauls : List ℕ) (r : Nearest) → hauls ≡ stretch s m p → r ≡ nearestOn hauls set

@@ -1,17 +1,17 @@
 -- Laws of the calls that write a plan: what each answers and leaves in the area, and the cases of pricing.
-use Prim.Native.Nat.{ℕ, _^_, _<_}
+use Prim.Native.Nat.{ℕ, _^_, _≤_, _<_}
 use native.Mathlib.Omega.{arith}
 use mathlib.Core.Path.{_≡_, refl, ap, ap₂, _∙_}
 use mathlib.Core.Bool.{true, false}
 use mathlib.Core.List.{List}
-use borrow.Author.Tests.{leb-true, ltb-true}
+use borrow.Author.Tests.{le-leb, leb-true, lt-ltb, ltb-true}
 use lib.ListN.{length}
 use lib.Dec.{leb}
 use Rattle.model.specs.Least.{any}
 use Rattle.model.specs.Sets.{member}
 use Rattle.model.specs.Instance.{totalCost}
-use Rattle.model.proofs.Bools.{and-left, and-right}
-use Rattle.model.proofs.SetLaws.{some-member}
+use Rattle.model.proofs.Bools.{fails, and-left, and-right, and-both}
+use Rattle.model.proofs.SetLaws.{some-member, member-some, member-below, below-pow}
 use Rattle.sheet.specs.Records.{splice}
 use Rattle.sheet.specs.Answers.{Answer, accepted, refused}
 use Rattle.sheet.specs.Sheet.{instanceBy, instanceOf}
@@ -43,14 +43,18 @@ unfolding answer
 answered (accepted p) r h = (p, refl, cc)
 answered (refused k) r h = let z : _≡_ {A = ℕ} 0 1 = cc in absurd (omega arith)
 
--- ---- question 8 in readable form: some yard below m is marked, and no other
+-- ---- question 8 in readable form, both ways: some yard below m is marked, and none from m on
 
-pub marked : (m set : ℕ) → question8 m set ≡ true → (set < 2 ^ m) × (any m (member set) ≡ true)
+pub marked : (m set : ℕ) → question8 m set ≡ true → (any m (member set) ≡ true) × ((i : ℕ) → m ≤ i → member set i ≡ false)
 unfolding question8
 marked m set h =
     let some = leb-true 1 set (and-left _ _ h) in
     let small = ltb-true set (2 ^ m) (and-right (leb 1 set) _ h) in
-    (small, some-member m set small some)
+    (some-member m set small some, λ i above. fails (λ e. omega (arith, member-below m set i small e)))
+
+pub marked-when : (m set : ℕ) → set < 2 ^ 32 → any m (member set) ≡ true → ((i : ℕ) → m ≤ i → member set i ≡ false) → question8 m set ≡ true
+unfolding question8
+marked-when m set bits some none = and-both (le-leb 1 set (member-some m set some)) (lt-ltb set (2 ^ m) (below-pow 32 m set bits none))
 
 -- ---- the cases of pricing
 

@@ -40,7 +40,7 @@ question9 m n room = leb (8 * (m + n + 2)) room
 unfoldable pub planFits : ℕ → ℕ → ℕ → Bool
 planFits m n room = leb m 32 && (leb n 128 && question9 m n room)
 
--- the plan of a set on a sheet of m yards and n farms; nothing where the sheet has not so many records or the plan does not fit
+-- the plan of a set on a sheet of m yards and n farms; nothing where the sheet has not so many records or the area is too small
 unfoldable pub writing : List ℕ → ℕ → ℕ → ℕ → ℕ → ℕ → ℕ → List ℕ
 writing s m n set total moves room =
     cond (planFits m n room && leb (8 * (m + n * m)) (length s)) (planBytes (instanceBy s m n) set total moves) []

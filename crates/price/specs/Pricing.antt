@@ -50,7 +50,7 @@ areaAfter (refused k) area = area
 unfoldable pub question8 : ℕ → ℕ → Bool
 question8 m set = leb 1 set && ltb set (2 ^ m)
 
--- Pricing the set on the sheet, with an area of so many bytes: "pricing asks 1 to 6, 8 and 9". The total is the full cost, the moves 0.
+-- Pricing the set on the sheet, with an area of so many bytes, asks questions 1 to 6, 8 and 9. The total is the full cost, the moves 0.
 unfoldable pub pricing : List ℕ → ℕ → ℕ → Answer Plan
 pricing s set room =
     after (reading s) (λ c. ask (question8 (c .yards) set) 8 (ask (question9 (c .yards) (c .farms) room) 9

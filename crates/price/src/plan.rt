@@ -35,7 +35,7 @@ pub fn plan_fits(yards: usize, farms: usize, room: usize) -> bool
 }
 
 // Writes the plan of a set on a sheet of so many yards and farms, and gives the bytes written. Where the sheet has not so many
-// records, or the plan does not fit the area, nothing is written.
+// records, or the area is smaller than question 9 asks, nothing is written.
 pub fn write_plan(
     sheet: &[u8],
     yards: usize,

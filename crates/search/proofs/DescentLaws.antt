@@ -14,13 +14,13 @@ use Rattle.model.proofs.SetLaws.{with-none}
 use Rattle.model.proofs.SearchLaws.{descend-stops, descend-turn}
 use Rattle.model.proofs.PlanLaws.{start-one, start-more, same-start}
 use Rattle.sheet.specs.Sheet.{instanceBy}
-use Rattle.sets.specs.Within.{withIn}
-use Rattle.sets.proofs.SetLaws.{with-in}
+use Rattle.sets.specs.Within.{with32}
+use Rattle.sets.proofs.SetLaws.{with32-below}
 use Rattle.search.specs.Tables.{tabled, tableCost, Holds, Zeros}
 use Rattle.search.specs.Settling.{priced, neighboursBy, settledAt, openEnd, limitedEnd}
 use Rattle.search.specs.declared.moves.Priced.{Priced}
 use Rattle.search.specs.declared.descent.Settled.{Settled}
-use Rattle.search.specs.declared.moves.Moves.the-variants.{AddDropSwap, Swap}
+use Rattle.search.specs.declared.moves.Neighbourhood.the-variants.{AddDropSwap, Swap}
 use Rattle.search.proofs.TableLaws.{open-cost-is, limited-cost-is}
 use Rattle.search.proofs.MoveLaws.{set-of, cost-of}
 
@@ -39,11 +39,11 @@ module _ (cost : ℕ → ℕ) where
   unfolding cheapest
   cheapest-one b e = e ∙ ap (priced cost) (start-one cost)
 
-  pub cheapest-more : (i x : ℕ) (b r : Priced) → 1 ≤ i → i < 32 → Cheapest b i → x ≡ withIn 0 i
+  pub cheapest-more : (i x : ℕ) (b r : Priced) → 1 ≤ i → i < 32 → Cheapest b i → x ≡ with32 0 i
       → r ≡ priced cost (better cost x (b .set)) → Cheapest r (i + 1)
   unfolding cheapest
   cheapest-more i x b r some few e x-is h =
-      let single : x ≡ 2 ^ i = x-is ∙ with-in 0 i few ∙ with-none i in
+      let single : x ≡ 2 ^ i = x-is ∙ with32-below 0 i few ∙ with-none i in
       h ∙ ap₂ (λ (y z : ℕ). priced cost (better cost y z)) single (set-of cost b (cheapest i) e)
       ∙ ap (priced cost) (start-more cost i some)
 

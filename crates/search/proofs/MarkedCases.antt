@@ -16,6 +16,7 @@ use Rattle.sheet.specs.Questions.{question1, question2, wellFormedAt, question3
 use Rattle.sheet.specs.Reading.{Counts, counts, form, reading}
 use Rattle.price.specs.Plan.{openRecord, farmRecord, totalRecord, movesRecord, planBytes, question9}
 use Rattle.price.specs.Pricing.{Plan, question8, pricing}
+use Rattle.search.specs.Settling.{settledAt, openEnd, limitedEnd, planOf}
 use Rattle.search.specs.Planning.{openPlan, limitedPlan, question7, openPlanning, limitedPlanning}
 
 -- ---- the sheets
@@ -45,21 +46,21 @@ pub data Call : Type 0 where
   reads : List ℕ → Call
   prices : List ℕ → ℕ → Call
   plans : List ℕ → Call
-  limits : List ℕ → ℕ → Call
+  plansLimited : List ℕ → ℕ → Call
 
 pub data Given : Type 0 where
-  sheet : Answer Counts → Given
-  list : Answer Plan → Given
+  readAnswer : Answer Counts → Given
+  planAnswer : Answer Plan → Given
 
 -- an area of 64 bytes holds every plan of S
 room : ℕ
 room = 64
 
 pub given : Call → Given
-given (reads s) = sheet (reading s)
-given (prices s set) = list (pricing s set room)
-given (plans s) = list (openPlanning s room)
-given (limits s k) = list (limitedPlanning s k room)
+given (reads s) = readAnswer (reading s)
+given (prices s set) = planAnswer (pricing s set room)
+given (plans s) = planAnswer (openPlanning s room)
+given (plansLimited s k) = planAnswer (limitedPlanning s k room)
 
 -- ---- the records of a plan
 
@@ -67,18 +68,18 @@ opened : ℕ → ℕ → List ℕ
 opened i fee = bytesOf (recordOf 0x4F i 0 0 fee)
 
 -- farm p is given yard a
-goes : ℕ → ℕ → ℕ → List ℕ
-goes p a amount = bytesOf (recordOf 0x41 a p 0 amount)
+served : ℕ → ℕ → ℕ → List ℕ
+served p a amount = bytesOf (recordOf 0x41 a p 0 amount)
 
 -- the total for so many yards and the three farms of S, and the moves
 ends : ℕ → ℕ → ℕ → List ℕ
 ends open-yards total moves = bytesOf (recordOf 0x54 open-yards 3 0 total) ++ bytesOf (recordOf 0x4D 0 0 0 moves)
 
 gives : List ℕ → ℕ → Given
-gives bytes moves = list (accepted record { bytes = bytes; moves = moves })
+gives bytes moves = planAnswer (accepted record { bytes = bytes; moves = moves })
 
 refuses : ℕ → Given
-refuses k = list (refused k)
+refuses k = planAnswer (refused k)
 
 -- ---- the table
 
@@ -92,24 +93,24 @@ case call answer = record { call = call; answer = answer }
 pub table : List Case
 table =
     -- S is accepted; its open plan
-    case (reads sheetS) (sheet (accepted (counts 3 3)))
+    case (reads sheetS) (readAnswer (accepted (counts 3 3)))
     ∷ case (plans sheetS)
-    (gives (opened 0 1 ++ opened 1 4 ++ opened 2 2 ++ goes 0 0 1 ++ goes 1 1 1 ++ goes 2 2 1 ++ ends 3 10 2) 2)
+    (gives (opened 0 1 ++ opened 1 4 ++ opened 2 2 ++ served 0 0 1 ++ served 1 1 1 ++ served 2 2 1 ++ ends 3 10 2) 2)
     -- pricing {0, 2}, {1}, no yard, yard 3
-    ∷ case (prices sheetS 5) (gives (opened 0 1 ++ opened 2 2 ++ goes 0 0 1 ++ goes 1 0 5 ++ goes 2 2 1 ++ ends 2 10 0) 0)
-    ∷ case (prices sheetS 2) (gives (opened 1 4 ++ goes 0 1 3 ++ goes 1 1 1 ++ goes 2 1 5 ++ ends 1 13 0) 0)
+    ∷ case (prices sheetS 5) (gives (opened 0 1 ++ opened 2 2 ++ served 0 0 1 ++ served 1 0 5 ++ served 2 2 1 ++ ends 2 10 0) 0)
+    ∷ case (prices sheetS 2) (gives (opened 1 4 ++ served 0 1 3 ++ served 1 1 1 ++ served 2 1 5 ++ ends 1 13 0) 0)
     ∷ case (prices sheetS 0) (refuses 8)
     ∷ case (prices sheetS 8) (refuses 8)
     -- the limited plans for k = 1, 2, 3, and for 0 and 4
-    ∷ case (limits sheetS 1) (gives (opened 1 4 ++ goes 0 1 3 ++ goes 1 1 1 ++ goes 2 1 5 ++ ends 1 9 1) 1)
-    ∷ case (limits sheetS 2) (gives (opened 1 4 ++ opened 2 2 ++ goes 0 1 3 ++ goes 1 1 1 ++ goes 2 2 1 ++ ends 2 5 1) 1)
-    ∷ case (limits sheetS 3)
-    (gives (opened 0 1 ++ opened 1 4 ++ opened 2 2 ++ goes 0 0 1 ++ goes 1 1 1 ++ goes 2 2 1 ++ ends 3 3 0) 0)
-    ∷ case (limits sheetS 0) (refuses 7)
-    ∷ case (limits sheetS 4) (refuses 7)
+    ∷ case (plansLimited sheetS 1) (gives (opened 1 4 ++ served 0 1 3 ++ served 1 1 1 ++ served 2 1 5 ++ ends 1 9 1) 1)
+    ∷ case (plansLimited sheetS 2) (gives (opened 1 4 ++ opened 2 2 ++ served 0 1 3 ++ served 1 1 1 ++ served 2 2 1 ++ ends 2 5 1) 1)
+    ∷ case (plansLimited sheetS 3)
+    (gives (opened 0 1 ++ opened 1 4 ++ opened 2 2 ++ served 0 0 1 ++ served 1 1 1 ++ served 2 2 1 ++ ends 3 3 0) 0)
+    ∷ case (plansLimited sheetS 0) (refuses 7)
+    ∷ case (plansLimited sheetS 4) (refuses 7)
     -- the rule kept, and broken
-    ∷ case (reads (twoYards 3)) (sheet (accepted (counts 2 2)))
-    ∷ case (reads (twoYards 4)) (sheet (refused 6))
+    ∷ case (reads (twoYards 3)) (readAnswer (accepted (counts 2 2)))
+    ∷ case (reads (twoYards 4)) (readAnswer (refused 6))
     ∷ []
 
 pub expected : List Case → List Given
@@ -121,5 +122,5 @@ computed [] = []
 computed (c ∷ cs) = given (c .call) ∷ computed cs
 
 pub marked-cases : computed table ≡ expected table
-unfolding table case gives refuses ends goes opened given room sheetS twoYards haulTo yard expected computed bytesOf recordAt wellFormed reading form question1 question2 wellFormedAt question3 numbered noYardAfter question4 haulInPlace farmInPlace question5 amountWithin question6 isYard yards hauls farms fee haul instanceOf instanceBy allBelow leading sum join any least arg member with without metric fourPointBPQ fourPointPQ fourPointQ fourPoint nearest assigned openingCost serviceCost totalCost addAt adds dropAt drops swapAt swapsOut swaps addDropSwap better best next descend search openCost openStart openSearch limitedCost limitedStart limitedSearch openRecord farmRecord totalRecord movesRecord planBytes question9 question8 pricing openPlan limitedPlan question7 openPlanning limitedPlanning
+unfolding table case gives refuses ends served opened given room sheetS twoYards haulTo yard expected computed bytesOf recordAt wellFormed reading form question1 question2 wellFormedAt question3 numbered noYardAfter question4 haulInPlace farmInPlace question5 amountWithin question6 isYard yards hauls farms fee haul instanceOf instanceBy allBelow leading sum join any least arg member with without metric fourPointBPQ fourPointPQ fourPointQ fourPoint nearest assigned openingCost serviceCost totalCost addAt adds dropAt drops swapAt swapsOut swaps addDropSwap better best next descend search openCost openStart openSearch limitedCost limitedStart limitedSearch openRecord farmRecord totalRecord movesRecord planBytes question9 question8 pricing openEnd limitedEnd settledAt planOf openPlan limitedPlan question7 openPlanning limitedPlanning
 marked-cases = refl

@@ -12,8 +12,8 @@ use Rattle.model.proofs.SearchLaws.{best-append}
 use Rattle.search.specs.Tables.{Tables, tableCost}
 use Rattle.search.specs.Settling.{priced, Ready, neighboursBy}
 use Rattle.search.specs.declared.moves.Priced.{Priced}
-use Rattle.search.specs.declared.moves.Moves.{Moves}
-use Rattle.search.specs.declared.moves.Moves.the-variants.{AddDropSwap, Swap}
+use Rattle.search.specs.declared.moves.Neighbourhood.{Neighbourhood}
+use Rattle.search.specs.declared.moves.Neighbourhood.the-variants.{AddDropSwap, Swap}
 
 module _ (cost : ℕ → ℕ) where
   pub set-of : (b : Priced) (x : ℕ) → b ≡ priced cost x → b .set ≡ x
@@ -66,7 +66,7 @@ module _ (cost : ℕ → ℕ) where
 
   -- ---- the moves of each kind
 
-  pub move-all : (moves : Moves) (m : ℕ) (b added dropped r : Priced) → moves ≡ AddDropSwap
+  pub move-all : (moves : Neighbourhood) (m : ℕ) (b added dropped r : Priced) → moves ≡ AddDropSwap
       → added ≡ priced cost (best cost (b .set) (adds m (b .set)))
       → dropped ≡ priced cost (best cost (added .set) (drops m (b .set)))
       → r ≡ priced cost (best cost (dropped .set) (swaps m (b .set)))
@@ -76,7 +76,7 @@ module _ (cost : ℕ → ℕ) where
       let x = b .set in
       rw e (best-then x (adds m x ++ drops m x) (swaps m x) dropped r (best-then x (adds m x) (drops m x) added dropped a d) s)
 
-  pub move-swap : (moves : Moves) (m : ℕ) (b r : Priced) → moves ≡ Swap
+  pub move-swap : (moves : Neighbourhood) (m : ℕ) (b r : Priced) → moves ≡ Swap
       → r ≡ priced cost (best cost (b .set) (swaps m (b .set)))
       → r ≡ priced cost (next cost (neighboursBy moves m) (b .set))
   unfolding next neighboursBy

@@ -8,7 +8,6 @@ use borrow.Author.Tests.{le-leb, lt-leb, leb-true}
 use lib.ListN.{length}
 use lib.Dec.{leb}
 use Rattle.model.specs.Sets.{member}
-use Rattle.model.specs.Instance.{Instance}
 use Rattle.model.specs.Search.{search}
 use Rattle.model.specs.Plans.{openCost, openSearch, limitedCost, limitedSearch}
 use Rattle.model.proofs.Bools.{and-left, and-right}
@@ -30,22 +29,15 @@ use Rattle.search.specs.Planning.{openPlan, limitedPlan, question7, open
 
 -- ---- the plan of what the search settled on
 
-pub open-plan-is : (I : Instance) → planOf I (openEnd I) ≡ openPlan I
-unfolding planOf openEnd settledAt openPlan
-open-plan-is I = refl
-
-pub limited-plan-is : (I : Instance) (k : ℕ) → planOf I (limitedEnd I k) ≡ limitedPlan I k
-unfolding planOf limitedEnd settledAt limitedPlan
-limited-plan-is I k = refl
-
 -- of the instance that is read off by its counts
 module _ (s : List ℕ) (m n : ℕ) (r : Settled) (form : HasForm s m n) where
   pub open-made : r ≡ openEnd (instanceBy s m n) → planOf (instanceBy s m n) r ≡ openPlan (instanceOf s)
-  open-made e = ap (planOf (instanceBy s m n)) e ∙ ap (λ I. planOf I (openEnd I)) (instance-is form) ∙ open-plan-is (instanceOf s)
+  unfolding openPlan
+  open-made e = ap (planOf (instanceBy s m n)) e ∙ ap (λ I. planOf I (openEnd I)) (instance-is form)
 
   pub limited-made : (k : ℕ) → r ≡ limitedEnd (instanceBy s m n) k → planOf (instanceBy s m n) r ≡ limitedPlan (instanceOf s) k
-  limited-made k e =
-      ap (planOf (instanceBy s m n)) e ∙ ap (λ I. planOf I (limitedEnd I k)) (instance-is form) ∙ limited-plan-is (instanceOf s) k
+  unfolding limitedPlan
+  limited-made k e = ap (planOf (instanceBy s m n)) e ∙ ap (λ I. planOf I (limitedEnd I k)) (instance-is form)
 
 -- cost and moves of what a search settled on are at most the start's cost, so they fit an amount
 module _ (cost : ℕ → ℕ) (neighbours : ℕ → List ℕ) (start : ℕ) (r : Settled) (e : r ≡ settledAt cost (search cost neighbours start)) where

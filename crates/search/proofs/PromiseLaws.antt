@@ -22,8 +22,9 @@ use Rattle.price.specs.Pricing.{Result, Plan, plan, meaning, answer, areaAfter}
 use Rattle.price.specs.declared.Planned.{Planned}
 use Rattle.price.proofs.PricingLaws.{answered}
 use Rattle.price.proofs.PlanSetLaws.{plan-set}
+use Rattle.search.specs.Settling.{settledAt, openEnd, limitedEnd, planOf}
 use Rattle.search.specs.Planning.{openPlan, limitedPlan, openPlanning, limitedPlanning}
-use Rattle.search.specs.Promises.{OfPlan, NoOpenMove, OpenSettled, NoLimitedMove, LimitedSettled, BesideAnyRival, OpenBounded, BesideRivalsOf, LimitedBounded}
+use Rattle.search.specs.Promises.{OfPlan, NoOpenMove, OpenPlanSettled, NoLimitedMove, LimitedPlanSettled, BoundedByRivals, OpenPlanBounded, BoundedByRivalsOf, LimitedPlanBounded}
 use Rattle.search.proofs.PlanningLaws.{open-when, limited-when}
 
 -- ---- the set in the area
@@ -63,7 +64,7 @@ facilities-are s = refl
 
 module _ (s : List ℕ) (w : WithinBounds (instanceOf s)) where
   open-set : (P : ℕ → Type 0) → P (openSearch (instanceOf s) (openStart (instanceOf s)) .set) → HasSet P (openPlan (instanceOf s))
-  unfolding openPlan
+  unfolding openPlan planOf openEnd settledAt
   open-set P holds =
       record {
         instance = instanceOf s;
@@ -78,7 +79,7 @@ module _ (s : List ℕ) (w : WithinBounds (instanceOf s)) where
 
   limited-set : (k : ℕ) → k ≤ instanceOf s .facilities → (P : ℕ → Type 0)
       → P (limitedSearch (instanceOf s) (limitedStart k) .set) → HasSet P (limitedPlan (instanceOf s) k)
-  unfolding limitedPlan
+  unfolding limitedPlan planOf limitedEnd settledAt
   limited-set k within P holds =
       record {
         instance = instanceOf s;
@@ -99,13 +100,13 @@ module _ (s : List ℕ) (w : WithinBounds (instanceOf s)) where
   unfolding limitedSearch instanceOf instanceBy
   limited-no-lower k = search-ends (limitedCost (instanceOf s)) (swaps (yards s)) (limitedStart k) .no-lower
 
-  open-within : BesideAnyRival s (openSearch (instanceOf s) (openStart (instanceOf s)) .set)
+  open-within : BoundedByRivals s (openSearch (instanceOf s) (openStart (instanceOf s)) .set)
   unfolding totalCost
   open-within rival some =
       let b = open-plan-bound (instanceOf s) (w .is-metric) (w .some-facilities) rival (rw (facilities-are s) some) in
       record { hauls = b .service; fees = b .opening; total = omega (arith, b .service, b .opening) }
 
-  limited-within : (k : ℕ) → k ≤ instanceOf s .facilities → BesideRivalsOf s k (limitedSearch (instanceOf s) (limitedStart k) .set)
+  limited-within : (k : ℕ) → k ≤ instanceOf s .facilities → BoundedByRivalsOf s k (limitedSearch (instanceOf s) (limitedStart k) .set)
   limited-within k within rival some few =
       let a = arg-least (yards s) rival (λ i. 0) some in
       limited-plan-bound (instanceOf s) (w .is-metric) k within rival
@@ -121,11 +122,11 @@ module _ (s : List ℕ) (r : Planned) (area next : List ℕ) where
         (λ p e. let h = open-when s (length area) p e in let w = door s (h .0) (h .1) (h .2) in
         rw (h .3) (open-set s w P (holds w)))
 
-    pub open-settled : OpenSettled s r next
+    pub open-settled : OpenPlanSettled s r next
     open-settled = open-of (NoOpenMove s) (open-no-lower s)
 
-    pub open-bounded : OpenBounded s r next
-    open-bounded = open-of (BesideAnyRival s) (open-within s)
+    pub open-bounded : OpenPlanBounded s r next
+    open-bounded = open-of (BoundedByRivals s) (open-within s)
 
   module _ (k : ℕ) (says : meaning r ≡ answer (limitedPlanning s k (length area)))
       (leaves : next ≡ areaAfter (limitedPlanning s k (length area)) area) where
@@ -137,20 +138,20 @@ module _ (s : List ℕ) (r : Planned) (area next : List ℕ) where
         let within : k ≤ instanceOf s .facilities = rw (facilities-are s, accepts s (h .0) (h .1) (h .2) .has .yards-are) (h .3) in
         rw (h .4) (limited-set s w k within P (holds w within)))
 
-    pub limited-settled : LimitedSettled s r next
+    pub limited-settled : LimitedPlanSettled s r next
     limited-settled = limited-of (NoLimitedMove s) (λ w within. limited-no-lower s w k)
 
-    pub limited-bounded : LimitedBounded s k r next
-    limited-bounded = limited-of (BesideRivalsOf s k) (λ w within. limited-within s w k within)
+    pub limited-bounded : LimitedPlanBounded s k r next
+    limited-bounded = limited-of (BoundedByRivalsOf s k) (λ w within. limited-within s w k within)
 
   -- all that the calls promise, from their two equations
   pub open-promises : (meaning r ≡ answer (openPlanning s (length area))) × (next ≡ areaAfter (openPlanning s (length area)) area)
       → (meaning r ≡ answer (openPlanning s (length area))) × ((next ≡ areaAfter (openPlanning s (length area)) area)
-      × (OpenSettled s r next × OpenBounded s r next))
+      × (OpenPlanSettled s r next × OpenPlanBounded s r next))
   open-promises h = (h .0, (h .1, (open-settled (h .0) (h .1), open-bounded (h .0) (h .1))))
 
   pub limited-promises : (k : ℕ)
       → (meaning r ≡ answer (limitedPlanning s k (length area))) × (next ≡ areaAfter (limitedPlanning s k (length area)) area)
       → (meaning r ≡ answer (limitedPlanning s k (length area))) × ((next ≡ areaAfter (limitedPlanning s k (length area)) area)
-      × (LimitedSettled s r next × LimitedBounded s k r next))
+      × (LimitedPlanSettled s r next × LimitedPlanBounded s k r next))
   limited-promises k h = (h .0, (h .1, (limited-settled k (h .0) (h .1), limited-bounded k (h .0) (h .1))))

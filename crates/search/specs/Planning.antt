@@ -4,24 +4,19 @@ use mathlib.Core.Bool.{Bool, _&&_}
 use mathlib.Core.List.{List}
 use lib.Dec.{leb}
 use Rattle.model.specs.Instance.{Instance}
-use Rattle.model.specs.Search.{Reached}
-use Rattle.model.specs.Plans.{openCost, openStart, openSearch, limitedCost, limitedStart, limitedSearch}
 use Rattle.sheet.specs.Answers.{Answer, accepted, ask, after}
 use Rattle.sheet.specs.Sheet.{instanceOf}
 use Rattle.sheet.specs.Reading.{reading}
 use Rattle.price.specs.Plan.{question9}
-use Rattle.price.specs.Pricing.{Plan, plan}
+use Rattle.price.specs.Pricing.{Plan}
+use Rattle.search.specs.Settling.{openEnd, limitedEnd, planOf}
 
--- the plan of the set that a search reached, its total by what the search goes by
-abbrev pub searchedPlan : Instance → (ℕ → ℕ) → Reached → Plan
-searchedPlan I cost r = plan I (r .set) (cost (r .set)) (r .steps)
-
--- the open plan, and the limited plan for k
+-- the open plan, and the limited plan for k: the set that the search ends in, its total by what the search goes by
 unfoldable pub openPlan : Instance → Plan
-openPlan I = searchedPlan I (openCost I) (openSearch I (openStart I))
+openPlan I = planOf I (openEnd I)
 
 unfoldable pub limitedPlan : Instance → ℕ → Plan
-limitedPlan I k = searchedPlan I (limitedCost I) (limitedSearch I (limitedStart k))
+limitedPlan I k = planOf I (limitedEnd I k)
 
 -- 7. Is k from 1 to m?
 unfoldable pub question7 : ℕ → ℕ → Bool

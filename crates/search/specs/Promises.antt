@@ -26,15 +26,15 @@ OfPlan r area P = (bytes moves : ℕ) → r ≡ Written bytes moves → P (planS
 abbrev pub NoOpenMove : List ℕ → ℕ → Type 0
 NoOpenMove s set = NoLower (openCost (instanceOf s)) (addDropSwap (yards s) set) set
 
-abbrev pub OpenSettled : List ℕ → Planned → List ℕ → Type 0
-OpenSettled s r area = OfPlan r area (NoOpenMove s)
+abbrev pub OpenPlanSettled : List ℕ → Planned → List ℕ → Type 0
+OpenPlanSettled s r area = OfPlan r area (NoOpenMove s)
 
 -- no set that one swap makes of it has a lower haul cost
 abbrev pub NoLimitedMove : List ℕ → ℕ → Type 0
 NoLimitedMove s set = NoLower (limitedCost (instanceOf s)) (swaps (yards s) set) set
 
-abbrev pub LimitedSettled : List ℕ → Planned → List ℕ → Type 0
-LimitedSettled s r area = OfPlan r area (NoLimitedMove s)
+abbrev pub LimitedPlanSettled : List ℕ → Planned → List ℕ → Type 0
+LimitedPlanSettled s r area = OfPlan r area (NoLimitedMove s)
 
 -- ---- demand 3
 
@@ -45,18 +45,18 @@ pub record OpenBound (I : Instance) (ours rival : ℕ → Bool) : Type 0 where
   pub total : totalCost I ours ≤ 3 * totalCost I rival
 
 -- "Whatever non-empty set of the sheet's yards that is."
-abbrev pub BesideAnyRival : List ℕ → ℕ → Type 0
-BesideAnyRival s set = (rival : ℕ → Bool) → any (yards s) rival ≡ true → OpenBound (instanceOf s) (member set) rival
+abbrev pub BoundedByRivals : List ℕ → ℕ → Type 0
+BoundedByRivals s set = (rival : ℕ → Bool) → any (yards s) rival ≡ true → OpenBound (instanceOf s) (member set) rival
 
-abbrev pub OpenBounded : List ℕ → Planned → List ℕ → Type 0
-OpenBounded s r area = OfPlan r area (BesideAnyRival s)
+abbrev pub OpenPlanBounded : List ℕ → Planned → List ℕ → Type 0
+OpenPlanBounded s r area = OfPlan r area (BoundedByRivals s)
 
 -- "Whatever non-empty set of at most k yards the rival rents, the hauls of our limited list for that k are at most five times the
 -- rival's."
-abbrev pub BesideRivalsOf : List ℕ → ℕ → ℕ → Type 0
-BesideRivalsOf s k set =
+abbrev pub BoundedByRivalsOf : List ℕ → ℕ → ℕ → Type 0
+BoundedByRivalsOf s k set =
     (rival : ℕ → Bool) → any (yards s) rival ≡ true → count (yards s) rival ≤ k
     → serviceCost (instanceOf s) (member set) ≤ 5 * serviceCost (instanceOf s) rival
 
-abbrev pub LimitedBounded : List ℕ → ℕ → Planned → List ℕ → Type 0
-LimitedBounded s k r area = OfPlan r area (BesideRivalsOf s k)
+abbrev pub LimitedPlanBounded : List ℕ → ℕ → Planned → List ℕ → Type 0
+LimitedPlanBounded s k r area = OfPlan r area (BoundedByRivalsOf s k)

@@ -5,7 +5,7 @@ ghost use Rattle.model.specs.Search.{search};
 ghost use Rattle.model.specs.Plans.{openStart};
 ghost use Rattle.search.specs.Tables.{Tables, tabled, tableCost};
 ghost use Rattle.search.specs.Settling.{priced, Ready, neighboursBy, settledAt};
-use crate::moves::Moves;
+use crate::moves::Neighbourhood;
 use crate::moves::Priced;
 use crate::moves::best_move;
 use crate::moves::better_of;
@@ -32,9 +32,9 @@ pub(crate) fn cheapest_yard(opening: &[u32], service: &[u32], m: usize, n: usize
     b
 }
 
-// The set that no move lowers, from a start.
+// From a start, the set whose cost no move lowers.
 pub(crate) fn settle(
-    moves: Moves,
+    neighbourhood: Neighbourhood,
     opening: &[u32],
     service: &[u32],
     m: usize,
@@ -42,12 +42,12 @@ pub(crate) fn settle(
     start: Priced,
 ) -> Settled
     requires { ⌜ Ready m n (now opening) (now service) start ⌝ }
-    ensures { λ r. ⌜ r ≡ settledAt (tableCost m n (now (opening .entry)) (now (service .entry))) (search (tableCost m n (now (opening .entry)) (now (service .entry))) (neighboursBy moves m) (start .set)) ⌝ }
+    ensures { λ r. ⌜ r ≡ settledAt (tableCost m n (now (opening .entry)) (now (service .entry))) (search (tableCost m n (now (opening .entry)) (now (service .entry))) (neighboursBy neighbourhood m) (start .set)) ⌝ }
 {
     let mut b = start;
     let mut made: u64 = 0;
     loop {
-        let next = best_move(moves, opening, service, m, n, b);
+        let next = best_move(neighbourhood, opening, service, m, n, b);
         let cost = b.cost;
         let lowest = next.cost;
         if cost <= lowest {

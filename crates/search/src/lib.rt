@@ -20,26 +20,27 @@ ghost use Rattle.price.specs.Pricing.{meaning, answer, areaAfter};
 ghost use Rattle.search.specs.Tables.{Zeros};
 ghost use Rattle.search.specs.Settling.{openEnd, limitedEnd, planOf};
 ghost use Rattle.search.specs.Planning.{openPlanning, limitedPlanning};
-ghost use Rattle.search.specs.Promises.{OpenSettled, OpenBounded, LimitedSettled, LimitedBounded};
+ghost use Rattle.search.specs.Promises.{OpenPlanSettled, OpenPlanBounded, LimitedPlanSettled, LimitedPlanBounded};
 use descent::Settled;
-use moves::Moves;
+use moves::Neighbourhood;
 use price::Planned;
+use sheet::MOST_FARMS;
 use sheet::MOST_YARDS;
 use sheet::Reading;
 
-// Of 32 yards and 128 farms.
-const MOST_HAULS: usize = 4096;
+const MOST_HAULS: usize = MOST_YARDS * MOST_FARMS;
 
 // Writes the open plan of a sheet to the front of the area. A refused call leaves the area as it was.
 pub fn open_plan(sheet: &[u8], area: &mut [u8]) -> Planned
     ensures answer { λ r. ⌜ meaning r ≡ answer (openPlanning (now (sheet .entry)) (length (now (area .entry)))) ⌝ }
     ensures area { λ r. ⌜ now (area .exit) ≡ areaAfter (openPlanning (now (sheet .entry)) (length (now (area .entry)))) (now (area .entry)) ⌝ }
-    ensures settled { λ r. ⌜ OpenSettled (now (sheet .entry)) r (now (area .exit)) ⌝ }
-    ensures bounded { λ r. ⌜ OpenBounded (now (sheet .entry)) r (now (area .exit)) ⌝ }
+    ensures settled { λ r. ⌜ OpenPlanSettled (now (sheet .entry)) r (now (area .exit)) ⌝ }
+    ensures bounded { λ r. ⌜ OpenPlanBounded (now (sheet .entry)) r (now (area .exit)) ⌝ }
 {
     match sheet::read(sheet) {
         Reading::Accepted { yards, farms } => {
-            if !price::plan_fits(yards, farms, area.len()) {
+            let fits = price::plan_fits(yards, farms, area.len());
+            if !fits {
                 return Planned::Refused(9);
             }
             let settled = open_search(sheet, yards, farms);
@@ -53,8 +54,8 @@ pub fn open_plan(sheet: &[u8], area: &mut [u8]) -> Planned
 pub fn limited_plan(sheet: &[u8], k: usize, area: &mut [u8]) -> Planned
     ensures answer { λ r. ⌜ meaning r ≡ answer (limitedPlanning (now (sheet .entry)) k (length (now (area .entry)))) ⌝ }
     ensures area { λ r. ⌜ now (area .exit) ≡ areaAfter (limitedPlanning (now (sheet .entry)) k (length (now (area .entry)))) (now (area .entry)) ⌝ }
-    ensures settled { λ r. ⌜ LimitedSettled (now (sheet .entry)) r (now (area .exit)) ⌝ }
-    ensures bounded { λ r. ⌜ LimitedBounded (now (sheet .entry)) k r (now (area .exit)) ⌝ }
+    ensures settled { λ r. ⌜ LimitedPlanSettled (now (sheet .entry)) r (now (area .exit)) ⌝ }
+    ensures bounded { λ r. ⌜ LimitedPlanBounded (now (sheet .entry)) k r (now (area .exit)) ⌝ }
 {
     match sheet::read(sheet) {
         Reading::Accepted { yards, farms } => {
@@ -98,7 +99,7 @@ fn open_search_on(
     tables::fill(sheet, 0, m, opening);
     tables::fill(sheet, m, n * m, service);
     let start = descent::cheapest_yard(opening, service, m, n);
-    descent::settle(Moves::AddDropSwap, opening, service, m, n, start)
+    descent::settle(Neighbourhood::AddDropSwap, opening, service, m, n, start)
 }
 
 // Yards 0 to k - 1.
@@ -133,7 +134,7 @@ fn limited_search_on(
 {
     tables::fill(sheet, m, n * m, service);
     let start = moves::priced_set(opening, service, m, n, first_yards(k));
-    descent::settle(Moves::Swap, opening, service, m, n, start)
+    descent::settle(Neighbourhood::Swap, opening, service, m, n, start)
 }
 
 // Writes the plan of the set that a search settled on; the moves are those made.

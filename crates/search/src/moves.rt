@@ -15,8 +15,8 @@ pub struct Priced {
     pub cost: u64,
 }
 
-// Which moves a search makes.
-pub enum Moves {
+// Which moves a search makes: those of an open plan, or swaps alone.
+pub enum Neighbourhood {
     AddDropSwap,
     Swap,
 }
@@ -113,10 +113,10 @@ fn best_add(opening: &[u32], service: &[u32], m: usize, n: usize, set: u32, star
     ensures { λ r. ⌜ r ≡ priced (tableCost m n (now (opening .entry)) (now (service .entry))) (best (tableCost m n (now (opening .entry)) (now (service .entry))) (start .set) (adds m set)) ⌝ }
 {
     let mut b = start;
-    let mut into = 0;
-    while into < m {
-        b = try_add(opening, service, m, n, set, into, b);
-        into += 1;
+    let mut i = 0;
+    while i < m {
+        b = try_add(opening, service, m, n, set, i, b);
+        i += 1;
     }
     b
 }
@@ -212,7 +212,7 @@ fn best_swap(
 
 // The set after the best move, or the set itself where no move lowers the cost.
 pub(crate) fn best_move(
-    moves: Moves,
+    neighbourhood: Neighbourhood,
     opening: &[u32],
     service: &[u32],
     m: usize,
@@ -220,14 +220,14 @@ pub(crate) fn best_move(
     b: Priced,
 ) -> Priced
     requires { ⌜ Ready m n (now opening) (now service) b ⌝ }
-    ensures { λ r. ⌜ r ≡ priced (tableCost m n (now (opening .entry)) (now (service .entry))) (next (tableCost m n (now (opening .entry)) (now (service .entry))) (neighboursBy moves m) (b .set)) ⌝ }
+    ensures { λ r. ⌜ r ≡ priced (tableCost m n (now (opening .entry)) (now (service .entry))) (next (tableCost m n (now (opening .entry)) (now (service .entry))) (neighboursBy neighbourhood m) (b .set)) ⌝ }
 {
-    match moves {
-        Moves::AddDropSwap => {
+    match neighbourhood {
+        Neighbourhood::AddDropSwap => {
             let added = best_add(opening, service, m, n, b.set, b);
             let dropped = best_drop(opening, service, m, n, b.set, added);
             best_swap(opening, service, m, n, b.set, dropped)
         }
-        Moves::Swap => best_swap(opening, service, m, n, b.set, b),
+        Neighbourhood::Swap => best_swap(opening, service, m, n, b.set, b),
     }
 }

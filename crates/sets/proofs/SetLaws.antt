@@ -7,20 +7,20 @@ use borrow.Author.Tests.{lt-ltb, le-ltb}
 use Rattle.model.specs.Sets.{member, with}
 use Rattle.model.proofs.Bools.{cases}
 use Rattle.model.proofs.SetLaws.{member-below, with-below}
-use Rattle.sets.specs.Within.{withIn}
+use Rattle.sets.specs.Within.{with32}
 
 -- no set of 32 bits has a number from 32 on
 pub none-above : (set i : ℕ) → set < 2 ^ 32 → 32 ≤ i → false ≡ member set i
 none-above set i small above =
     cases (member set i) (λ e. absurd (omega (arith, member-below 32 set i small e))) (λ e. rw e)
 
-pub with-in : (set i : ℕ) → i < 32 → withIn set i ≡ with set i
-unfolding withIn
-with-in set i below = rw (lt-ltb i 32 below)
+pub with32-below : (set i : ℕ) → i < 32 → with32 set i ≡ with set i
+unfolding with32
+with32-below set i below = rw (lt-ltb i 32 below)
 
-pub with-out : (set i : ℕ) → 32 ≤ i → withIn set i ≡ set
-unfolding withIn
-with-out set i above = rw (le-ltb i 32 above)
+pub with32-above : (set i : ℕ) → 32 ≤ i → with32 set i ≡ set
+unfolding with32
+with32-above set i above = rw (le-ltb i 32 above)
 
 -- a set has room for the bit of a number that it has not
 pub room : (set i : ℕ) → set < 2 ^ 32 → i < 32 → member set i ≡ false → set + 2 ^ i < 2 ^ 32

@@ -5,5 +5,5 @@ use lib.Dec.{ltb}
 use Rattle.model.specs.Sets.{with}
 
 -- the set with i, or as it was where i is 32 or above
-unfoldable pub withIn : ℕ → ℕ → ℕ
-withIn set i = cond (ltb i 32) (with set i) set
+unfoldable pub with32 : ℕ → ℕ → ℕ
+with32 set i = cond (ltb i 32) (with set i) set

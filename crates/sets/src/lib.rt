@@ -1,7 +1,7 @@
 // Sets of yards in a 32-bit number, of which bit i marks yard i (document 01, question 8).
 ghost use mathlib.Core.Path.{_≡_};
 ghost use Rattle.model.specs.Sets.{member, without};
-ghost use Rattle.sets.specs.Within.{withIn};
+ghost use Rattle.sets.specs.Within.{with32};
 
 const BITS: usize = 32;
 
@@ -15,9 +15,9 @@ pub fn has(set: u32, i: usize) -> bool
     (set >> (i as u32)) % 2 == 1
 }
 
-// The set with yard i, or as it was where it has no such bit.
+// The set with yard i, or as it was where i is 32 or above.
 pub fn added(set: u32, i: usize) -> u32
-    ensures { λ r. ⌜ r ≡ withIn set i ⌝ }
+    ensures { λ r. ⌜ r ≡ with32 set i ⌝ }
 {
     if BITS <= i {
         return set;

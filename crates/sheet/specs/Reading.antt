@@ -42,7 +42,7 @@ abbrev pub stretchBy : Answer Counts → List ℕ → ℕ → List ℕ
 stretchBy (accepted c) s p = cond (ltb p (c .farms)) (stretch s (c .yards) p) []
 stretchBy (refused k) s p = []
 
--- "A farm's hauls are given as that stretch of the caller's sheet. A caller who names a farm n or above, or a sheet that
--- questions 1 to 4 turn down, gets the empty stretch."
+-- A farm's hauls, as that stretch of the caller's sheet: "a caller who names a farm n or above, or a sheet that questions 1 to 4
+-- turn down, gets the empty stretch".
 unfoldable pub farmHauls : List ℕ → ℕ → List ℕ
 farmHauls s p = stretchBy (form s) s p

@@ -14,7 +14,7 @@ use crate::record::Record;
 
 const LEAST_BYTES: usize = 16;
 
-const MOST_BYTES: usize = 33024;
+pub const MOST_BYTES: usize = 33024;
 
 // The counts of yards and farms, or the number of the first question of 1 to 4 that is answered no.
 pub(crate) fn form_of(sheet: &[u8]) -> Reading

@@ -7,6 +7,7 @@ mod form;
 mod four_point;
 mod record;
 
+pub use form::MOST_BYTES;
 pub use record::KIND_HAUL;
 pub use record::KIND_YARD;
 pub use record::Record;

@@ -5,10 +5,10 @@ use Rattle.cases.proofs.planning.print_records.Statement.{statement}
 use Rattle.cases.proofs.planning.print_records.Tie as tie
 
 abbrev Inv-loop : tie.InvT-loop
-Inv-loop area bytes n i₀ i = i ≤ n
+Inv-loop area from bytes n i₀ i = 0 ≤ i
 
 abbrev μ-loop : tie.MeasureT-loop
-μ-loop area bytes n i₀ i = n - i
+μ-loop area from bytes n i₀ i = n - i
 
 loop-holds : tie.Need-loop-holds Inv-loop μ-loop
 loop-holds c = omega arith

@@ -1,12 +1,12 @@
 -- `closer` meets its contract: each `return` is a case of it.
 use mathlib.Core.Logic.{⊎-elim}
 use borrow.Author.Tests.{not-true, not-false}
-use Rattle.price.proofs.NearestLaws.{closer-shut, closer-stays, closer-first, closer-nearer}
+use Rattle.price.proofs.NearestLaws.{closer-closed, closer-stays, closer-first, closer-nearer}
 use Rattle.price.proofs.nearest.closer.Statement.{statement}
 use Rattle.price.proofs.nearest.closer.Tie as tie
 
 returns : tie.Need-returns
-returns c = closer-shut _ _ _ _ (not-true _ (c .if1 .taken))
+returns c = closer-closed _ _ _ _ (not-true _ (c .if1 .taken))
 
 returns-2 : tie.Need-returns-2
 returns-2 c = closer-stays _ _ _ _ (c .before .before .if2 .taken) (c .if3 .taken)

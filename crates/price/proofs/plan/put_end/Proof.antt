@@ -33,15 +33,15 @@ mul-result c = search needs
 add-result : tie.Need-add-result
 add-result c = search needs
 
-same-length : tie.Need-same-length
-same-length c = search needs
-
 returns : tie.Need-returns
 unfolding movesRecord
 returns c = let second = c .before .before in
     let first = second .before .before .before .before in
     let made = first .before .before in
     (omega arith, put-two _ _ _ _ _ _ _ _ (omega arith) (made .before .new .ensures) (first .put .ensures) (made .new2 .ensures) (second .put2 .ensures))
+
+same-length : tie.Need-same-length
+same-length c = search needs
 
 pub put-end-spec : {M : Type 1} → statement M
 put-end-spec =

@@ -5,7 +5,7 @@ use mathlib.Core.Path.{sym, ap}
 use Rattle.model.proofs.Bools.{said-no, said-yes}
 use Rattle.sheet.proofs.SpliceLaws.{length-bytes, splice-none}
 use Rattle.price.proofs.WriteLaws.{put-one}
-use Rattle.price.proofs.PlanLaws.{open-shut, open-on}
+use Rattle.price.proofs.PlanLaws.{closed-record, open-on}
 use borrow.Author.Needs.{needs}
 use Rattle.price.proofs.plan.put_open.Statement.{statement}
 use Rattle.price.proofs.plan.put_open.Tie as tie
@@ -14,7 +14,7 @@ has-requires : tie.Need-has-requires
 has-requires c κs = search needs
 
 returns : tie.Need-returns
-returns c = rw (open-shut _ _ _ (said-no (c .before .has .ensures) (c .if1 .taken))) (omega arith, sym (splice-none _ _))
+returns c = rw (closed-record _ _ _ (said-no (c .before .has .ensures) (c .if1 .taken))) (omega arith, sym (splice-none _ _))
 
 at-requires : tie.Need-at-requires
 at-requires c κs = search needs

@@ -9,10 +9,10 @@ use Rattle.search.proofs.moves.best_add.Statement.{statement}
 use Rattle.search.proofs.moves.best_add.Tie as tie
 
 abbrev Inv-loop : tie.InvT-loop
-Inv-loop opening service m n set b₀ into₀ b into = (into ≤ m) × Passed (tableCost m n opening service) (addAt set) (b₀ .set) b into
+Inv-loop opening service m n set b₀ i₀ b i = (i ≤ m) × Passed (tableCost m n opening service) (addAt set) (b₀ .set) b i
 
 abbrev μ-loop : tie.MeasureT-loop
-μ-loop opening service m n set b₀ into₀ b into = m - into
+μ-loop opening service m n set b₀ i₀ b i = m - i
 
 loop-holds : tie.Need-loop-holds Inv-loop μ-loop
 loop-holds c = (omega arith, passed-none _ _ _ (c .before .before .pre .right))
@@ -21,8 +21,8 @@ try-add-requires : tie.Need-try-add-requires Inv-loop μ-loop
 try-add-requires c κs =
     (ready _ _ _ _ _ _ (c .before .before .before .before .pre .tables) (c .before .loop .inv .1), c .loop-test .taken)
 
-add-into : tie.Need-add-into Inv-loop μ-loop
-add-into c = omega arith
+add-i : tie.Need-add-i Inv-loop μ-loop
+add-i c = omega arith
 
 loop-less : tie.Need-loop-less Inv-loop μ-loop
 loop-less c = omega arith
@@ -33,10 +33,10 @@ loop-again c =
 
 returns : tie.Need-returns Inv-loop μ-loop
 unfolding adds
-returns c = let e : c .before .loop .into ≡ c .before .before .before .before .args .m = omega arith in
+returns c = let e : c .before .loop .i ≡ c .before .before .before .before .args .m = omega arith in
     rw e at (c .before .loop .inv .1)
 
 pub best-add-spec : {M : Type 1} → statement M
 best-add-spec =
     tie.close
-    (tie.spec Inv-loop μ-loop loop-holds try-add-requires add-into loop-less loop-again returns)
+    (tie.spec Inv-loop μ-loop loop-holds try-add-requires add-i loop-less loop-again returns)

@@ -12,7 +12,9 @@ best-add-requires : tie.Need-best-add-requires
 best-add-requires c κs = search needs
 
 best-drop-requires : tie.Need-best-drop-requires
-best-drop-requires c κs = ready _ _ _ _ _ _ (c .before .before .before .before .before .pre .tables) (c .best-add .ensures)
+best-drop-requires c κs =
+    let added = ready _ _ _ _ _ _ (c .before .before .before .before .before .pre .tables) (c .best-add .ensures) in
+    search (added, needs)
 
 best-swap-requires : tie.Need-best-swap-requires
 best-swap-requires c κs = ready _ _ _ _ _ _ (c .before .before .before .before .before .before .pre .tables) (c .best-drop .ensures)

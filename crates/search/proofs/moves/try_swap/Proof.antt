@@ -4,7 +4,7 @@ use mathlib.Core.Path.{sym, _∙_}
 use borrow.Author.Needs.{needs}
 use Rattle.model.specs.Neighbours.{swapAt}
 use Rattle.model.specs.Search.{best}
-use Rattle.sets.proofs.SetLaws.{with-in}
+use Rattle.sets.proofs.SetLaws.{with32-below}
 use Rattle.search.proofs.moves.try_swap.Statement.{statement}
 use Rattle.search.proofs.moves.try_swap.Tie as tie
 
@@ -27,7 +27,7 @@ better-of-requires c κs = search needs
 returns-2 : tie.Need-returns-2
 unfolding swapAt best
 returns-2 c = let s = c .before .before .before .before .before .before .before in
-    let x-is = c .before .added .ensures ∙ with-in _ _ (omega (arith, s .pre .0 .tables .few-facilities)) in
+    let x-is = c .before .added .ensures ∙ with32-below _ _ (omega (arith, s .pre .0 .tables .few-facilities)) in
     let shut = sym (c .before .before .before .before .has .ensures) ∙ c .before .before .before .if1 .left in
     rw (shut, ← c .before .before .removed .ensures, ← x-is) (c .better-of .ensures)
 
