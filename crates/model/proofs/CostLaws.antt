@@ -1,6 +1,6 @@
 -- Laws of the costs, for callers who need not open them: the nearest facility, sets that agree, metric service costs.
 use Prim.Native.Nat.{ℕ, _+_, _*_, _≤_, _<_}
-use native.Mathlib.Nat.{mul-le-mul-left}
+use native.Mathlib.Nat.{one-mul, mul-le-mul-left}
 use mathlib.Core.Path.{_≡_, sym, ap, ap₂, _∙_}
 use mathlib.Core.Bool.{Bool, true, false}
 use borrow.Author.Tests.{leb-true, leb-false, le-leb, lt-leb}
@@ -85,6 +85,11 @@ module _ (I : Instance) where
   pub served-nearest : (S : ℕ → Bool) → any m S ≡ true → serviceCost I S ≡ sum n (λ j. weight j * service (assigned I S j) j)
   unfolding serviceCost
   served-nearest S e = sum-cong n (λ j l. ap (λ x. weight j * x) (sym (assigned-nearest S j e)))
+
+  -- where every client counts once, the plain sum
+  pub service-once : ((j : ℕ) → weight j ≡ 1) → (S : ℕ → Bool) → sum n (nearest I S) ≡ serviceCost I S
+  unfolding serviceCost
+  service-once once S = sum-cong n (λ j l. sym (ap (λ w. w * nearest I S j) (once j) ∙ one-mul (nearest I S j)))
 
   -- ---- sets that agree on the facilities cost the same
 

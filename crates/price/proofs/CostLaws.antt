@@ -1,13 +1,12 @@
 -- Laws of costs on a sheet: the sums that the loops over yards and farms compute are those of the sheet's instance.
 use Prim.Native.Nat.{ℕ, _<_}
-use native.Mathlib.Nat.{one-mul}
 use native.Mathlib.Omega.{arith}
-use mathlib.Core.Path.{_≡_, refl, sym, ap, _∙_}
+use mathlib.Core.Path.{_≡_, refl, ap, _∙_}
 use mathlib.Core.Bool.{Bool}
 use mathlib.Core.List.{List}
 use Rattle.model.specs.Loops.{on, sum}
 use Rattle.model.specs.Instance.{nearest, openingCost, serviceCost}
-use Rattle.model.proofs.SumLaws.{sum-cong}
+use Rattle.model.proofs.CostLaws.{service-once}
 use Rattle.sheet.specs.declared.record.Record.{Record}
 use Rattle.sheet.specs.Records.{wholeRecordAt}
 use Rattle.sheet.specs.Sheet.{fee, instanceBy}
@@ -24,7 +23,6 @@ module _ (s : List ℕ) (m n : ℕ) where
   unfolding openingCost instanceBy
   fees-sum S = refl
 
-  -- every farm counts once
   pub hauls-sum : (S : ℕ → Bool) → sum n (nearest (instanceBy s m n) S) ≡ serviceCost (instanceBy s m n) S
-  unfolding serviceCost instanceBy
-  hauls-sum S = sum-cong n (λ j l. sym (one-mul (nearest (instanceBy s m n) S j)))
+  unfolding instanceBy
+  hauls-sum S = service-once (instanceBy s m n) (λ j. refl) S

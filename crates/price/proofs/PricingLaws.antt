@@ -17,6 +17,7 @@ use Rattle.sheet.specs.Answers.{Answer, accepted, refused}
 use Rattle.sheet.specs.Sheet.{instanceBy, instanceOf}
 use Rattle.sheet.specs.Shape.{Shape}
 use Rattle.sheet.specs.Reading.{counts, reading}
+use Rattle.sheet.proofs.ReadingLaws.{same-result, apart}
 use Rattle.sheet.proofs.AcceptedLaws.{shape-of, instance-is, accepts, door}
 use Rattle.sheet.proofs.CostBounds.{total-fits}
 use Rattle.price.specs.Plan.{planBytes, question9, writing}
@@ -40,8 +41,8 @@ module _ (outcome : Answer Plan) (area : List ℕ) where
 pub answered : (outcome : Answer Plan) (r : Result) → accepted r ≡ answer outcome
     → (p : Plan) × (outcome ≡ accepted p) × (r ≡ result (length (p .bytes)) (p .moves))
 unfolding answer
-answered (accepted p) r h = (p, refl, cc)
-answered (refused k) r h = let z : _≡_ {A = ℕ} 0 1 = cc in absurd (omega arith)
+answered (accepted p) r h = (p, refl, same-result h)
+answered (refused k) r h = absurd (apart h)
 
 -- ---- question 8 in readable form, both ways: some yard below m is marked, and none from m on
 

@@ -17,6 +17,7 @@ use Rattle.sheet.specs.Answers.{Answer, accepted, refused, ask, after}
 use Rattle.sheet.specs.Sheet.{instanceBy, instanceOf}
 use Rattle.sheet.specs.Shape.{Shape}
 use Rattle.sheet.specs.Reading.{Counts, counts, reading}
+use Rattle.sheet.proofs.ReadingLaws.{same-result, apart}
 use Rattle.sheet.proofs.AcceptedLaws.{HasForm, instance-is, accepts, door}
 use Rattle.sheet.proofs.CostBounds.{total-fits, service-fits}
 use Rattle.price.specs.Plan.{question9, writing}
@@ -137,20 +138,14 @@ module _ (s : List ℕ) (room : ℕ) where
 
 -- ---- and back: where a plan is made, the sheet was accepted and the questions were answered yes
 
-apart : {A : Type 0} {x : A} {k : ℕ} → _≡_ {A = Answer A} (refused k) (accepted x) → ⊥
-apart h = let z : _≡_ {A = ℕ} 0 1 = cc in omega arith
-
-same : {A : Type 0} {x y : A} → accepted x ≡ accepted y → x ≡ y
-same h = cc
-
 asked : {A : Type 0} (b : Bool) (k : ℕ) (rest : Answer A) (x : A) → ask b k rest ≡ accepted x → (b ≡ true) × (rest ≡ accepted x)
 asked true k rest x h = (refl, h)
-asked false k rest x h = absurd (apart h)
+asked false k rest x h = absurd (apart (sym h))
 
 read-first : {A : Type 0} (r : Answer Counts) (f : Counts → Answer A) (x : A) → after r f ≡ accepted x
     → (c : Counts) × (r ≡ accepted c) × (f c ≡ accepted x)
 read-first (accepted c) f x h = (c, refl, h)
-read-first (refused k) f x h = absurd (apart h)
+read-first (refused k) f x h = absurd (apart (sym h))
 
 pub open-when : (s : List ℕ) (room : ℕ) (p : Plan) → openPlanning s room ≡ accepted p
     → (m : ℕ) × (n : ℕ) × (reading s ≡ accepted (counts m n)) × (p ≡ openPlan (instanceOf s))
@@ -159,7 +154,7 @@ open-when s room p h =
     let r = read-first (reading s) _ p h in
     let c = r .0 in
     let q = asked (question9 (c .yards) (c .farms) room) 9 _ p (r .2) in
-    (c .yards, c .farms, r .1, sym (same (q .1)))
+    (c .yards, c .farms, r .1, sym (same-result (q .1)))
 
 pub limited-when : (s : List ℕ) (k room : ℕ) (p : Plan) → limitedPlanning s k room ≡ accepted p
     → (m : ℕ) × (n : ℕ) × (reading s ≡ accepted (counts m n)) × (k ≤ m) × (p ≡ limitedPlan (instanceOf s) k)
@@ -169,4 +164,4 @@ limited-when s k room p h =
     let c = r .0 in
     let q7 = asked (question7 (c .yards) k) 7 _ p (r .2) in
     let q9 = asked (question9 (c .yards) (c .farms) room) 9 _ p (q7 .1) in
-    (c .yards, c .farms, r .1, k-within (c .yards) k (q7 .0) .1, sym (same (q9 .1)))
+    (c .yards, c .farms, r .1, k-within (c .yards) k (q7 .0) .1, sym (same-result (q9 .1)))

@@ -1,7 +1,7 @@
 -- Laws of the search's tables: filling one, where the entries lie, and what a turn over facilities or clients adds,
 -- and that tables filled from a sheet cost what its instance does.
 use Prim.Native.Nat.{ℕ, _+_, _*_, _≤_, _<_}
-use native.Mathlib.Nat.{zero-add, one-mul, not-suc-le-zero}
+use native.Mathlib.Nat.{zero-add, not-suc-le-zero}
 use native.Mathlib.Omega.{arith}
 use mathlib.Core.Path.{_≡_, refl, sym, ap, ap₂, _∙_}
 use mathlib.Core.Bool.{Bool, false}
@@ -14,7 +14,7 @@ use Rattle.model.specs.Instance.{nearest, openingCost, serviceCost, totalCost}
 use Rattle.model.specs.Plans.{openCost, limitedCost}
 use Rattle.model.proofs.LoopLaws.{up-to}
 use Rattle.model.proofs.SumLaws.{sum-cong, sum-zero, on-zero}
-use Rattle.model.proofs.CostLaws.{same-service, same-opening}
+use Rattle.model.proofs.CostLaws.{service-once, same-service, same-opening}
 use Rattle.sheet.specs.declared.record.Record.{Record}
 use Rattle.sheet.specs.Records.{recordAt, wholeRecordAt}
 use Rattle.sheet.specs.Sheet.{fee, haul, instanceBy}
@@ -74,11 +74,10 @@ module _ (m : ℕ) (service : List ℕ) (set j : ℕ) where
 
 -- ---- a loop over the clients
 
--- every client counts once
 pub service-sum : (m n : ℕ) (opening service : List ℕ) (S : ℕ → Bool)
     → sum n (nearest (tabled m n opening service) S) ≡ serviceCost (tabled m n opening service) S
-unfolding serviceCost tabled
-service-sum m n opening service S = sum-cong n (λ j l. sym (one-mul _))
+unfolding tabled
+service-sum m n opening service S = service-once (tabled m n opening service) (λ j. refl) S
 
 -- ---- tables filled from a sheet
 

@@ -37,11 +37,11 @@ pub record AllYes (s : List ℕ) : Type 0 where
 same-number : {j k : ℕ} → _≡_ {A = Answer Counts} (refused j) (refused k) → j ≡ k
 same-number h = cc
 
-same-counts : {c d : Counts} → accepted c ≡ accepted d → c ≡ d
-same-counts h = cc
+pub same-result : {A : Type 0} {x y : A} → accepted x ≡ accepted y → x ≡ y
+same-result h = cc
 
 -- no answer is both
-apart : {c : Counts} {k : ℕ} → accepted c ≡ refused k → ⊥
+pub apart : {A : Type 0} {x : A} {k : ℕ} → accepted x ≡ refused k → ⊥
 apart h = let z : _≡_ {A = ℕ} 0 1 = cc in omega arith
 
 module _ (s : List ℕ) where
@@ -121,7 +121,7 @@ module _ (s : List ℕ) where
   accepted-when m n h =
       elim answered [
         | inl y ↦
-            let e = same-counts (sym (when-accepted y) ∙ h) in
+            let e = same-result (sym (when-accepted y) ∙ h) in
             (y, ap (λ c. c .yards) e, ap (λ c. c .farms) e)
         | inr f ↦ absurd (apart (sym h ∙ when-refused (f .0) (f .1)))
       ]
@@ -129,7 +129,7 @@ module _ (s : List ℕ) where
   -- a sheet that the first four pass has the counts that it is read to have
   pub formed : (m n : ℕ) → form s ≡ accepted (counts m n) → Formed s × (yards s ≡ m) × (farms s ≡ n)
   formed m n h = let y = passed answered in
-      let e = same-counts (sym (form-yes y) ∙ h) in
+      let e = same-result (sym (form-yes y) ∙ h) in
       (y, ap (λ c. c .yards) e, ap (λ c. c .farms) e)
     where
       no-form : (k : ℕ) → FirstNo s k → Formed s
