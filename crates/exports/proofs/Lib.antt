@@ -1,0 +1,2 @@
+-- NumberLaws: what a number says is what the call answered.
+pub mod NumberLaws

@@ -1,0 +1,94 @@
+// The calls of the planner for Rust and C, as `include/planner.h` declares them.
+//
+// Each hands its arguments on to `sheet`, `price` or `search` and gives the answer as one number: bits 0 to 7 the refusal number,
+// 0 where the call is accepted, and above them what the call returns. A refused call gives its number alone. Every call is total.
+ghost use mathlib.Core.Path.{_≡_};
+ghost use lib.ListN.{length, getD};
+ghost use Rattle.sheet.specs.Reading.{reading, farmHauls};
+ghost use Rattle.price.specs.Pricing.{meaning, answer, areaAfter, pricing};
+ghost use Rattle.search.specs.Planning.{openPlanning, limitedPlanning};
+ghost use Rattle.search.specs.Promises.{NoOpenMove, BoundedByRivals, NoLimitedMove, BoundedByRivalsOf};
+ghost use Rattle.exports.specs.Numbers.{countsNumber, resultNumber, Within, OfWritten};
+use price::Planned;
+use sheet::Reading;
+
+// What the parts of a number count for that begin at bit 8, at bit 16 and at bit 32.
+const BIT_8: u64 = 256;
+
+const BIT_16: u64 = 65536;
+
+const BIT_32: u64 = 4294967296;
+
+// Asks questions 1 to 6. Bits 8 to 15: the yards; bits 16 to 23: the farms.
+#[no_mangle]
+pub extern "C" fn planner_read(sheet: &[u8]) -> u64
+    ensures { λ r. ⌜ r ≡ countsNumber (reading (now (sheet .entry))) ⌝ }
+{
+    match sheet::read(sheet) {
+        Reading::Accepted { yards, farms } => (yards as u64) * BIT_8 + (farms as u64) * BIT_16,
+        Reading::Refused(number) => number as u64,
+    }
+}
+
+// The length of a farm's stretch of the sheet.
+#[no_mangle]
+pub extern "C" fn planner_farm_len(sheet: &[u8], farm: usize) -> usize
+    ensures { λ r. ⌜ r ≡ length (farmHauls (now (sheet .entry)) farm) ⌝ }
+{
+    sheet::farm_hauls(sheet, farm).len()
+}
+
+// Byte `at` of a farm's stretch, 0 past its end.
+#[no_mangle]
+pub extern "C" fn planner_farm_byte(sheet: &[u8], farm: usize, at: usize) -> u8
+    ensures { λ r. ⌜ r ≡ getD (farmHauls (now (sheet .entry)) farm) at 0 ⌝ }
+{
+    let hauls = sheet::farm_hauls(sheet, farm);
+    if at < hauls.len() { hauls[at] } else { 0 }
+}
+
+// Prices a set of yards, of which bit i marks yard i, and writes its plan to the front of the area.
+// Bits 8 to 31: the bytes written; bits 32 to 63: the moves.
+#[no_mangle]
+pub extern "C" fn planner_price(sheet: &[u8], set: u32, area: &mut [u8]) -> u64
+    ensures answer { λ r. ⌜ r ≡ resultNumber (answer (pricing (now (sheet .entry)) set (length (now (area .entry))))) ⌝ }
+    ensures area { λ r. ⌜ now (area .exit) ≡ areaAfter (pricing (now (sheet .entry)) set (length (now (area .entry)))) (now (area .entry)) ⌝ }
+{
+    let priced = price::price(sheet, set, area);
+    number(priced)
+}
+
+// Writes the open plan to the front of the area; the number as for pricing.
+#[no_mangle]
+pub extern "C" fn planner_open_plan(sheet: &[u8], area: &mut [u8]) -> u64
+    ensures answer { λ r. ⌜ r ≡ resultNumber (answer (openPlanning (now (sheet .entry)) (length (now (area .entry))))) ⌝ }
+    ensures area { λ r. ⌜ now (area .exit) ≡ areaAfter (openPlanning (now (sheet .entry)) (length (now (area .entry)))) (now (area .entry)) ⌝ }
+    ensures settled { λ r. ⌜ OfWritten r (now (area .exit)) (NoOpenMove (now (sheet .entry))) ⌝ }
+    ensures bounded { λ r. ⌜ OfWritten r (now (area .exit)) (BoundedByRivals (now (sheet .entry))) ⌝ }
+{
+    let open_plan = search::open_plan(sheet, area);
+    number(open_plan)
+}
+
+// Writes the limited plan for k yards to the front of the area; the number as for pricing.
+#[no_mangle]
+pub extern "C" fn planner_limited_plan(sheet: &[u8], k: usize, area: &mut [u8]) -> u64
+    ensures answer { λ r. ⌜ r ≡ resultNumber (answer (limitedPlanning (now (sheet .entry)) k (length (now (area .entry))))) ⌝ }
+    ensures area { λ r. ⌜ now (area .exit) ≡ areaAfter (limitedPlanning (now (sheet .entry)) k (length (now (area .entry)))) (now (area .entry)) ⌝ }
+    ensures settled { λ r. ⌜ OfWritten r (now (area .exit)) (NoLimitedMove (now (sheet .entry))) ⌝ }
+    ensures bounded { λ r. ⌜ OfWritten r (now (area .exit)) (BoundedByRivalsOf (now (sheet .entry)) k) ⌝ }
+{
+    let limited_plan = search::limited_plan(sheet, k, area);
+    number(limited_plan)
+}
+
+// The answer of a call that writes a plan, as a number.
+fn number(planned: Planned) -> u64
+    requires { ⌜ Within (meaning planned) ⌝ }
+    ensures { λ r. ⌜ r ≡ resultNumber (meaning planned) ⌝ }
+{
+    match planned {
+        Planned::Written { bytes, moves } => (bytes as u64) * BIT_8 + (moves as u64) * BIT_32,
+        Planned::Refused(refusal) => refusal as u64,
+    }
+}
