@@ -1,10 +1,9 @@
 -- What a number says is what the call answered: no part of it reaches into another part's bits, and 0 is no refusal.
-use Prim.Native.Nat.{ℕ, _+_, _*_, _^_, _≤_, _<_}
+use Prim.Native.Nat.{ℕ, _^_, _≤_, _<_}
 use native.Mathlib.Omega.{arith}
 use mathlib.Core.Path.{_≡_, refl, sym, ap, subst, _∙_}
 use mathlib.Core.Bool.{Bool, true, false}
 use mathlib.Core.List.{List}
-use lib.ListN.{length}
 use Rattle.model.specs.Sets.{member}
 use Rattle.model.specs.Instance.{Instance, totalCost}
 use Rattle.model.proofs.CountLaws.{count-le}
