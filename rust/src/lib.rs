@@ -1,0 +1,27 @@
+//! The yard planner for Rust (`library`), and what it is held against: the whole of document 01 a second time (`literal`), the
+//! same as fast as plain Rust makes it (`fast`), and sheets of every kind (`samples`). `csv` and `words` are the tool `sheet`.
+pub mod csv;
+pub mod fast;
+pub mod library;
+pub mod literal;
+pub mod random;
+pub mod samples;
+pub mod table;
+pub mod words;
+
+/// What an accepted reading gives.
+#[derive(Clone, Copy, Debug, PartialEq, Eq)]
+pub struct Counts {
+    pub yards: usize,
+    pub farms: usize,
+}
+
+/// What an accepted call that writes a plan gives.
+#[derive(Clone, Copy, Debug, PartialEq, Eq)]
+pub struct Written {
+    pub bytes: usize,
+    pub moves: u32,
+}
+
+/// The whole result of a call, or the number of the first question that is answered no.
+pub type Answer<T> = Result<T, u8>;

@@ -1,0 +1,68 @@
+//! The planner's calls, proved in Rattle: a safe face of `include/planner.h`.
+//!
+//! Every call takes any bytes, any set, any count and any area. A refused call gives document 01's number and leaves the area as
+//! it was.
+use crate::{Answer, Counts, Written};
+
+mod raw {
+    extern "C" {
+        pub fn planner_read(sheet: *const u8, sheet_len: usize) -> u64;
+        pub fn planner_farm_len(sheet: *const u8, sheet_len: usize, farm: usize) -> usize;
+        pub fn planner_farm_byte(sheet: *const u8, sheet_len: usize, farm: usize, at: usize) -> u8;
+        pub fn planner_price(sheet: *const u8, sheet_len: usize, set: u32, area: *mut u8, area_len: usize) -> u64;
+        pub fn planner_open_plan(sheet: *const u8, sheet_len: usize, area: *mut u8, area_len: usize) -> u64;
+        pub fn planner_limited_plan(
+            sheet: *const u8,
+            sheet_len: usize,
+            k: usize,
+            area: *mut u8,
+            area_len: usize,
+        ) -> u64;
+    }
+}
+
+/// The counts of yards and farms, or the number of the first question of 1 to 6 that is answered no.
+pub fn read(sheet: &[u8]) -> Answer<Counts> {
+    let result = unsafe { raw::planner_read(sheet.as_ptr(), sheet.len()) };
+    accepted(result)?;
+    Ok(Counts { yards: (result >> 8 & 0xFF) as usize, farms: (result >> 16 & 0xFF) as usize })
+}
+
+/// The length of a farm's stretch of the sheet: 8 bytes for each yard, or 0 where the farm or the form of the sheet is refused.
+pub fn farm_len(sheet: &[u8], farm: usize) -> usize {
+    unsafe { raw::planner_farm_len(sheet.as_ptr(), sheet.len(), farm) }
+}
+
+/// Byte `at` of a farm's stretch, 0 past its end.
+pub fn farm_byte(sheet: &[u8], farm: usize, at: usize) -> u8 {
+    unsafe { raw::planner_farm_byte(sheet.as_ptr(), sheet.len(), farm, at) }
+}
+
+/// Prices a set of yards, of which bit i marks yard i, and writes its plan to the front of the area.
+pub fn price(sheet: &[u8], set: u32, area: &mut [u8]) -> Answer<Written> {
+    written(unsafe { raw::planner_price(sheet.as_ptr(), sheet.len(), set, area.as_mut_ptr(), area.len()) })
+}
+
+/// Writes the open plan to the front of the area.
+pub fn open_plan(sheet: &[u8], area: &mut [u8]) -> Answer<Written> {
+    written(unsafe { raw::planner_open_plan(sheet.as_ptr(), sheet.len(), area.as_mut_ptr(), area.len()) })
+}
+
+/// Writes the limited plan for k yards to the front of the area.
+pub fn limited_plan(sheet: &[u8], k: usize, area: &mut [u8]) -> Answer<Written> {
+    written(unsafe { raw::planner_limited_plan(sheet.as_ptr(), sheet.len(), k, area.as_mut_ptr(), area.len()) })
+}
+
+/// Bits 0 to 7: the refusal number, 0 where the call is accepted.
+fn accepted(result: u64) -> Answer<()> {
+    match (result & 0xFF) as u8 {
+        0 => Ok(()),
+        number => Err(number),
+    }
+}
+
+/// Bits 8 to 31: the bytes written; bits 32 to 63: the moves.
+fn written(result: u64) -> Answer<Written> {
+    accepted(result)?;
+    Ok(Written { bytes: (result >> 8 & 0xFF_FFFF) as usize, moves: (result >> 32) as u32 })
+}

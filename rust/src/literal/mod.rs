@@ -1,0 +1,88 @@
+//! Document 01 written a second time, sentence by sentence and in its order, to compare the proved library with. Plain before
+//! fast: every question is asked over the whole sheet and every move is priced from nothing.
+mod haul_sheet;
+mod plan_area;
+mod questions;
+mod search;
+#[cfg(test)]
+mod tests;
+
+use crate::{Answer, Counts, Written};
+use haul_sheet::HaulSheet;
+use questions::{ask, ask_1_to_4, ask_1_to_6, question_7, question_8, question_9};
+use search::Settled;
+
+pub use search::Move;
+
+/// Reading asks 1 to 6 and returns m and n.
+pub fn read(sheet: &[u8]) -> Answer<Counts> {
+    let sheet = ask_1_to_6(sheet)?;
+    Ok(Counts { yards: sheet.m(), farms: sheet.n() })
+}
+
+/// A farm's hauls as that stretch of the caller's sheet, empty for a farm n or above and where questions 1 to 4 turn it down.
+pub fn farm_hauls(sheet: &[u8], farm: usize) -> &[u8] {
+    match ask_1_to_4(sheet) {
+        Ok(accepted) if farm < accepted.n() => haul_sheet::stretch(sheet, accepted.m(), farm),
+        _ => &[],
+    }
+}
+
+/// Pricing asks 1 to 6, 8 and 9.
+pub fn price(sheet: &[u8], set: u32, area: &mut [u8]) -> Answer<Written> {
+    let sheet = ask_1_to_6(sheet)?;
+    ask(8, question_8(&sheet, set))?;
+    ask(9, question_9(&sheet, area))?;
+    let priced = Settled { set, moves: Vec::new() };
+    Ok(plan_area::write(&sheet, &priced, sheet.full_cost(set), area))
+}
+
+/// An open plan asks 1 to 6 and 9.
+pub fn open_plan(sheet: &[u8], area: &mut [u8]) -> Answer<Written> {
+    let sheet = ask_1_to_6(sheet)?;
+    ask(9, question_9(&sheet, area))?;
+    let settled = search::open_plan(&sheet);
+    Ok(plan_area::write(&sheet, &settled, sheet.full_cost(settled.set), area))
+}
+
+/// A limited plan asks 1 to 6, 7 and 9.
+pub fn limited_plan(sheet: &[u8], k: usize, area: &mut [u8]) -> Answer<Written> {
+    let sheet = ask_1_to_6(sheet)?;
+    ask(7, question_7(&sheet, k))?;
+    ask(9, question_9(&sheet, area))?;
+    let settled = search::limited_plan(&sheet, k);
+    Ok(plan_area::write(&sheet, &settled, sheet.haul_cost(settled.set), area))
+}
+
+/// The moves of the open plan, first to last; none where reading refuses the sheet.
+pub fn open_moves(sheet: &[u8]) -> Vec<Move> {
+    match ask_1_to_6(sheet) {
+        Ok(sheet) => search::open_plan(&sheet).moves,
+        Err(_) => Vec::new(),
+    }
+}
+
+/// The moves of the limited plan for k, first to last; none where reading refuses the sheet or question 7 the k.
+pub fn limited_moves(sheet: &[u8], k: usize) -> Vec<Move> {
+    match ask_1_to_6(sheet) {
+        Ok(sheet) if question_7(&sheet, k) => search::limited_plan(&sheet, k).moves,
+        _ => Vec::new(),
+    }
+}
+
+/// The haul cost of a set; 0 where reading refuses the sheet or question 8 the set.
+pub fn haul_cost(sheet: &[u8], set: u32) -> u64 {
+    amount_of_set(sheet, set, HaulSheet::haul_cost)
+}
+
+/// The sum of the fees of a set's yards; 0 where reading refuses the sheet or question 8 the set.
+pub fn fees(sheet: &[u8], set: u32) -> u64 {
+    amount_of_set(sheet, set, HaulSheet::fees_of)
+}
+
+fn amount_of_set(sheet: &[u8], set: u32, amount: fn(&HaulSheet, u32) -> u64) -> u64 {
+    match ask_1_to_6(sheet) {
+        Ok(sheet) if question_8(&sheet, set) => amount(&sheet, set),
+        _ => 0,
+    }
+}

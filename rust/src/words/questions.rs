@@ -1,0 +1,14 @@
+//! The questions put to a call, in the words of document 01.
+
+pub const QUESTIONS: [&str; 9] = [
+    "Is the length a multiple of 8, from 16 to 33,024 bytes?",
+    "Is every kind 59 or 48 hex, every byte 3 zero, and byte 2 zero in every yard record?",
+    "Do 1 to 32 yard records stand first, numbered from 0 in order, with none after them?",
+    "Is the count of haul records m times n with n from 1 to 128, each with the yard and farm number of its place?",
+    "Is every fee at most 50,000,000 and every haul at most 1,000,000?",
+    "Four-point rule: for all yards a, b and all farms p, q, is haul(a, q) at most haul(a, p) + haul(b, p) + haul(b, q)?",
+    "Limited plan only: is k from 1 to m?",
+    "Pricing only: does the set, a 32-bit number whose bit i marks yard i (bit 0 lowest), mark at least one yard and none \
+     numbered m or above?",
+    "Is the lent plan area at least 8 × (m + n + 2) bytes?",
+];

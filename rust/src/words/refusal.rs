@@ -1,0 +1,215 @@
+//! Why a call is refused: the first question of document 01 that is answered no, and where.
+//!
+//! The number of a refusal is the library's. The fault is searched here, from the document alone, and must be of that number.
+use super::questions::QUESTIONS;
+use super::Names;
+
+pub const MOST_YARDS: usize = 32;
+pub const MOST_FARMS: usize = 128;
+pub const RECORD: usize = 8;
+const LEAST_BYTES: usize = 16;
+const MOST_BYTES: usize = 33_024;
+const MOST_FEE: u32 = 50_000_000;
+const MOST_HAUL: u32 = 1_000_000;
+const YARD: u8 = 0x59;
+const HAUL: u8 = 0x48;
+
+/// What a call was given beside the sheet.
+#[derive(Clone, Copy, Debug, Default)]
+pub struct Given {
+    pub k: Option<usize>,
+    pub set: Option<u32>,
+    /// The length of the lent plan area.
+    pub area: Option<usize>,
+}
+
+/// A question that is answered no, the records that show it (none where a count or something given does), and why in words.
+#[derive(Debug)]
+pub struct Fault {
+    pub question: u8,
+    pub records: Vec<usize>,
+    pub words: String,
+}
+
+/// The refusal in words; an error where the search here does not come to the library's number.
+pub fn explained(number: u8, sheet: &[u8], given: &Given, names: &Names) -> Result<String, String> {
+    match first_fault(sheet, given, names) {
+        Some(fault) if fault.question == number => {
+            let question = QUESTIONS[number as usize - 1];
+            Ok(format!("refused {number}\nQuestion {number}: {question} No.\n{}\n", fault.words))
+        }
+        other => {
+            let found =
+                other.map_or("no fault at all".into(), |fault| format!("a fault of question {}", fault.question));
+            Err(format!("refused {number}\nThis tool finds {found}: the library or the tool has a defect.\n"))
+        }
+    }
+}
+
+/// The first question that is answered no, by a search of its own.
+pub fn first_fault(sheet: &[u8], given: &Given, names: &Names) -> Option<Fault> {
+    let records: Vec<&[u8]> = sheet.chunks_exact(RECORD).collect();
+    length(sheet).or_else(|| kinds(&records)).or_else(|| yards(&records)).or_else(|| {
+        let m = records.iter().take_while(|record| record[0] == YARD).count();
+        let n = (records.len() - m) / m;
+        places(&records, m)
+            .or_else(|| amounts(&records))
+            .or_else(|| four_points(&records, m, n, names))
+            .or_else(|| beside(given, m, n))
+    })
+}
+
+fn without_record(question: u8, words: String) -> Option<Fault> {
+    Some(Fault { question, records: Vec::new(), words })
+}
+
+fn at_record(question: u8, records: &[&[u8]], at: usize, words: String) -> Option<Fault> {
+    let words = format!("{}\n{words}", described(records[at], at));
+    Some(Fault { question, records: vec![at], words })
+}
+
+/// A record's place, its bytes in hex and what they mean.
+fn described(record: &[u8], at: usize) -> String {
+    let hex: Vec<String> = record.iter().map(|byte| format!("{byte:02X}")).collect();
+    let (yard, farm, amount) = (record[1], record[2], amount(record));
+    let meaning = match record[0] {
+        YARD => format!("a yard, number {yard}, fee {amount}"),
+        HAUL => format!("a haul, yard {yard}, farm {farm}, amount {amount}"),
+        _ => "neither a yard nor a haul".into(),
+    };
+    format!("Record {at} (counted from 0), at byte {}: {} hex: {meaning}.", at * RECORD, hex.join(" "))
+}
+
+pub fn amount(record: &[u8]) -> u32 {
+    u32::from_le_bytes([record[4], record[5], record[6], record[7]])
+}
+
+/// Question 1.
+fn length(sheet: &[u8]) -> Option<Fault> {
+    let bytes = sheet.len();
+    if bytes.is_multiple_of(RECORD) && (LEAST_BYTES..=MOST_BYTES).contains(&bytes) {
+        return None;
+    }
+    let (whole, over) = (bytes / RECORD, bytes % RECORD);
+    without_record(1, format!("The length is {bytes} bytes: whole records {whole}, bytes left over {over}."))
+}
+
+/// Question 2.
+fn kinds(records: &[&[u8]]) -> Option<Fault> {
+    let wrong = |record: &[u8]| match record {
+        [kind, ..] if ![YARD, HAUL].contains(kind) => {
+            Some(format!("Its kind is {kind:02X} hex. Asked: {YARD:02X} for a yard or {HAUL:02X} for a haul."))
+        }
+        [_, _, _, third, ..] if *third != 0 => Some(format!("Its byte 3 is {third:02X} hex. Asked: zero.")),
+        [YARD, _, second, ..] if *second != 0 => {
+            Some(format!("It is a yard and its byte 2 is {second:02X} hex. Asked: zero."))
+        }
+        _ => None,
+    };
+    let (at, words) = records.iter().enumerate().find_map(|(at, record)| Some((at, wrong(record)?)))?;
+    at_record(2, records, at, words)
+}
+
+/// Question 3.
+fn yards(records: &[&[u8]]) -> Option<Fault> {
+    let first_haul = records.iter().position(|record| record[0] == HAUL).unwrap_or(records.len());
+    let wrong = |at: usize| match (records[at][0] == YARD, at) {
+        (false, 0) => Some("No yard stands first. Asked: yard 0.".into()),
+        (false, _) => None,
+        (true, _) if at > first_haul => {
+            Some(format!("It stands after the haul in record {first_haul}. Asked: no yard."))
+        }
+        (true, MOST_YARDS) => Some(format!("It is one yard more than the {MOST_YARDS} that a sheet may have.")),
+        (true, _) if records[at][1] as usize != at => {
+            Some(format!("Its number is {}. Asked here: {at}.", records[at][1]))
+        }
+        (true, _) => None,
+    };
+    let (at, words) = (0..records.len()).find_map(|at| Some((at, wrong(at)?)))?;
+    at_record(3, records, at, words)
+}
+
+/// Question 4: the first record out of its place, else the count.
+fn places(records: &[&[u8]], m: usize) -> Option<Fault> {
+    let hauls = records.len() - m;
+    let (farms, over) = (hauls / m, hauls % m);
+    let found = format!("Counted: yards {m}, hauls {hauls}, which is farms {farms}, hauls left over {over}.");
+    let count = format!("{found} Asked: 1 to {MOST_FARMS} farms, no haul left over.");
+    let count_right = over == 0 && (1..=MOST_FARMS).contains(&farms);
+    let moved = (m..records.len()).find(|&at| (records[at][1] as usize, records[at][2] as usize) != place(at, m));
+    match moved {
+        Some(at) => {
+            let (yard, farm) = place(at, m);
+            let count = if count_right { String::new() } else { format!("\n{count}") };
+            at_record(4, records, at, format!("Asked here: yard {yard}, farm {farm}.{count}"))
+        }
+        None if count_right => None,
+        None => without_record(4, count),
+    }
+}
+
+/// The yard and the farm whose haul stands in a record after the m yards.
+fn place(at: usize, m: usize) -> (usize, usize) {
+    ((at - m) % m, (at - m) / m)
+}
+
+/// Question 5.
+fn amounts(records: &[&[u8]]) -> Option<Fault> {
+    let bound = |record: &[u8]| if record[0] == YARD { ("fee", MOST_FEE) } else { ("haul", MOST_HAUL) };
+    let at = records.iter().position(|record| amount(record) > bound(record).1)?;
+    let (word, most) = bound(records[at]);
+    at_record(5, records, at, format!("Its {word} is {}. Asked: at most {most}.", amount(records[at])))
+}
+
+/// Question 6: of all that break the rule, the first of those that break it by most.
+fn four_points(records: &[&[u8]], m: usize, n: usize, names: &Names) -> Option<Fault> {
+    let hauls: Vec<i64> = records[m..].iter().map(|record| amount(record) as i64).collect();
+    let haul = |yard: usize, farm: usize| hauls[farm * m + yard];
+    let mut most = 0;
+    let mut worst = None;
+    for (a, b) in pairs(m) {
+        for (p, q) in pairs(n) {
+            let excess = haul(a, q) - haul(a, p) - haul(b, p) - haul(b, q);
+            if excess > most {
+                most = excess;
+                worst = Some([a, b, p, q]);
+            }
+        }
+    }
+    let [a, b, p, q] = worst?;
+    let at = |yard: usize, farm: usize| m + farm * m + yard;
+    let line = |hauls: &str, yard: usize, farm: usize| {
+        format!("haul({hauls}) is {}, record {} at byte {}.", haul(yard, farm), at(yard, farm), at(yard, farm) * RECORD)
+    };
+    let words = [
+        format!("a is {}, b is {}, p is {}, q is {}.", names.yard(a), names.yard(b), names.farm(p), names.farm(q)),
+        line("a, q", a, q),
+        line("a, p", a, p),
+        line("b, p", b, p),
+        line("b, q", b, q),
+        format!("The last three come to {}; the first is more by {most}.", haul(a, q) - most),
+    ];
+    Some(Fault { question: 6, records: vec![at(a, q), at(a, p), at(b, p), at(b, q)], words: words.join("\n") })
+}
+
+/// All pairs of numbers below a count, in order.
+fn pairs(count: usize) -> impl Iterator<Item = (usize, usize)> {
+    (0..count).flat_map(move |one| (0..count).map(move |other| (one, other)))
+}
+
+/// Questions 7, 8 and 9, where they are put.
+fn beside(given: &Given, m: usize, n: usize) -> Option<Fault> {
+    if let Some(k) = given.k.filter(|k| !(1..=m).contains(k)) {
+        return without_record(7, format!("k is {k}. Asked: from 1 to {m}, the count of yards."));
+    }
+    if let Some(set) = given.set.filter(|&set| set == 0 || set as u64 >> m != 0) {
+        let marked: Vec<String> =
+            (0..u32::BITS).filter(|yard| set >> yard & 1 == 1).map(|yard| yard.to_string()).collect();
+        let marks = if set == 0 { "no yard".into() } else { format!("these yards: {}", marked.join(", ")) };
+        let asked = format!("Asked: at least one of the sheet's {m} yards, 0 to {}, and no other.", m - 1);
+        return without_record(8, format!("The set is {set:08X} hex and marks {marks}. {asked}"));
+    }
+    let asked = RECORD * (m + n + 2);
+    let area = given.area.filter(|&area| area < asked)?;
+    without_record(9, format!("The area has {area} bytes. Asked: at least {RECORD} × ({m} + {n} + 2) = {asked}."))
+}

@@ -1,0 +1,44 @@
+/* The planner from C: reads document 01's sheet S, prices {0, 2}, and makes both plans. */
+#include "planner.h"
+
+#include <stdio.h>
+
+static const uint8_t sheet[96] = {
+    0x59, 0, 0, 0, 1, 0, 0, 0, /* yard 0, fee 1 */
+    0x59, 1, 0, 0, 4, 0, 0, 0, /* yard 1, fee 4 */
+    0x59, 2, 0, 0, 2, 0, 0, 0, /* yard 2, fee 2 */
+    0x48, 0, 0, 0, 1, 0, 0, 0, 0x48, 1, 0, 0, 3, 0, 0, 0, 0x48, 2, 0, 0, 9, 0, 0, 0, /* farm 0: 1, 3, 9 */
+    0x48, 0, 1, 0, 5, 0, 0, 0, 0x48, 1, 1, 0, 1, 0, 0, 0, 0x48, 2, 1, 0, 5, 0, 0, 0, /* farm 1: 5, 1, 5 */
+    0x48, 0, 2, 0, 9, 0, 0, 0, 0x48, 1, 2, 0, 5, 0, 0, 0, 0x48, 2, 2, 0, 1, 0, 0, 0, /* farm 2: 9, 5, 1 */
+};
+
+static uint8_t area[PLANNER_MOST_AREA];
+
+static void show(const char *call, uint64_t result)
+{
+    if (planner_refusal(result) != 0) {
+        printf("%s: refused %u\n", call, planner_refusal(result));
+        return;
+    }
+    printf("%s: bytes %zu, moves %u", call, planner_bytes(result), (unsigned)planner_moves(result));
+    for (size_t at = 0; at < planner_bytes(result); at += 8)
+        printf("; %c %u %u %u", area[at], area[at + 1], area[at + 2], area[at + 4]);
+    printf("\n");
+}
+
+int main(void)
+{
+    uint64_t result = planner_read(sheet, sizeof sheet);
+    printf("read: yards %zu, farms %zu\n", planner_yards(result), planner_farms(result));
+    printf("farm 1: bytes %zu", planner_farm_len(sheet, sizeof sheet, 1));
+    for (size_t at = 4; at < planner_farm_len(sheet, sizeof sheet, 1); at += 8)
+        printf(" %u", planner_farm_byte(sheet, sizeof sheet, 1, at));
+    printf("\n");
+    show("pricing {0, 2}", planner_price(sheet, sizeof sheet, 1u << 0 | 1u << 2, area, sizeof area));
+    show("open plan", planner_open_plan(sheet, sizeof sheet, area, sizeof area));
+    show("limited plan, k = 2", planner_limited_plan(sheet, sizeof sheet, 2, area, sizeof area));
+    show("limited plan, k = 4", planner_limited_plan(sheet, sizeof sheet, 4, area, sizeof area));
+    show("pricing nothing", planner_price(sheet, sizeof sheet, 0, area, sizeof area));
+    show("open plan, area of 63", planner_open_plan(sheet, sizeof sheet, area, 63));
+    return 0;
+}
