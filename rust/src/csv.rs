@@ -8,8 +8,8 @@
 //!
 //! Amounts are whole cents, as on the sheet, and the first cell says so: an amount like 12.50 is a fault, never rounded or
 //! read as euros. Cells are parted by commas or, as some spreadsheets do it, by semicolons.
+use crate::format::{MOST_FARMS, MOST_YARDS};
 use crate::table::Table;
-use crate::words::refusal::{MOST_FARMS, MOST_YARDS};
 use crate::words::Names;
 
 const BYTE_ORDER_MARK: &[u8] = b"\xEF\xBB\xBF";

@@ -1,1 +1,68 @@
-//! To come.
+//! The calls of document 01 as fast as plain Rust makes them. The planner's times are held against these.
+//!
+//! A sheet is read once into a table of fixed size. Question 6 takes two yards at a time, and a search keeps the costs of
+//! all moves and counts again only the farms that a move touches. Nothing is allocated, and the loops over yards are laid
+//! out for the vector instructions that every x86-64 processor has.
+mod area;
+mod float;
+mod near;
+mod prices;
+mod rule;
+mod search;
+mod sheet;
+
+use crate::{Answer, Counts, Written};
+pub use search::{limited_plan_of, open_plan_of};
+pub use sheet::Hauls;
+
+/// The counts of yards and farms, or the number of the first question of 1 to 6 that is answered no.
+pub fn read(sheet: &[u8]) -> Answer<Counts> {
+    let mut hauls = Hauls::none();
+    hauls.read(sheet)?;
+    Ok(Counts { yards: hauls.yards, farms: hauls.farms })
+}
+
+/// Prices a set of yards, of which bit i marks yard i, and writes its plan to the front of the area.
+pub fn price(sheet: &[u8], set: u32, area: &mut [u8]) -> Answer<Written> {
+    let mut hauls = Hauls::none();
+    hauls.read(sheet)?;
+    if set == 0 || u64::from(set) >> hauls.yards != 0 {
+        return Err(8);
+    }
+    large_enough(area, &hauls)?;
+    Ok(price_of(&hauls, set, area))
+}
+
+/// Writes the open plan to the front of the area.
+pub fn open_plan(sheet: &[u8], area: &mut [u8]) -> Answer<Written> {
+    let mut hauls = Hauls::none();
+    hauls.read(sheet)?;
+    large_enough(area, &hauls)?;
+    Ok(open_plan_of(&hauls, area))
+}
+
+/// Writes the limited plan for k yards to the front of the area.
+pub fn limited_plan(sheet: &[u8], k: usize, area: &mut [u8]) -> Answer<Written> {
+    let mut hauls = Hauls::none();
+    hauls.read(sheet)?;
+    if k < 1 || k > hauls.yards {
+        return Err(7);
+    }
+    large_enough(area, &hauls)?;
+    Ok(limited_plan_of(&hauls, k, area))
+}
+
+/// Prices a set that question 8 accepts, in an area that question 9 accepts.
+pub fn price_of(hauls: &Hauls, set: u32, area: &mut [u8]) -> Written {
+    let yards = near::Yards::of(set);
+    let served = hauls.rows().iter().map(|row| near::nearest(row, &yards));
+    area::write(hauls, &yards, served, &hauls.fees, 0, area)
+}
+
+/// Question 9.
+fn large_enough(area: &[u8], hauls: &Hauls) -> Answer<()> {
+    if area.len() < sheet::RECORD * (hauls.yards + hauls.farms + 2) {
+        return Err(9);
+    }
+    Ok(())
+}

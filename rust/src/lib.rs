@@ -1,7 +1,10 @@
 //! The yard planner for Rust (`library`), and what it is held against: the whole of document 01 a second time (`literal`), the
-//! same as fast as plain Rust makes it (`fast`), and sheets of every kind (`samples`). `csv` and `words` are the tool `sheet`.
+//! same as fast as plain Rust makes it (`fast`), all three side by side (`calls`), and sheets of every kind (`samples`).
+//! `csv` and `words` are the tool `sheet`.
+pub mod calls;
 pub mod csv;
 pub mod fast;
+pub mod format;
 pub mod library;
 pub mod literal;
 pub mod random;

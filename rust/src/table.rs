@@ -1,4 +1,5 @@
 //! A haul sheet as a table of fees and hauls, before it is written as bytes.
+use crate::format::{record, HAUL, YARD};
 
 #[derive(Clone, Debug, PartialEq, Eq)]
 pub struct Table {
@@ -13,19 +14,13 @@ impl Table {
     pub fn sheet(&self) -> Vec<u8> {
         let mut bytes = Vec::new();
         for (yard, &fee) in self.fees.iter().enumerate() {
-            bytes.extend(record(0x59, yard, 0, fee));
+            bytes.extend(record(YARD, yard, 0, fee));
         }
         for (farm, hauls) in self.hauls.iter().enumerate() {
             for (yard, &haul) in hauls.iter().enumerate() {
-                bytes.extend(record(0x48, yard, farm, haul));
+                bytes.extend(record(HAUL, yard, farm, haul));
             }
         }
         bytes
     }
-}
-
-/// One record of eight bytes. Numbers above 255 lose their high part, as faulty sheets may have it.
-pub fn record(kind: u8, yard: usize, farm: usize, amount: u32) -> [u8; 8] {
-    let [a, b, c, d] = amount.to_le_bytes();
-    [kind, yard as u8, farm as u8, 0, a, b, c, d]
 }

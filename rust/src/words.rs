@@ -3,11 +3,9 @@ mod questions;
 pub mod refusal;
 mod tables;
 
+use crate::format::MOST_AREA;
 use crate::{library, Answer};
-use refusal::{Given, MOST_FARMS, MOST_YARDS, RECORD};
-
-/// Room for every plan: a record for each open yard and each farm, the total and the moves.
-const AREA: usize = RECORD * (MOST_YARDS + MOST_FARMS + 2);
+use refusal::Given;
 
 /// Exit statuses. A defect is a refusal for which the tool does not find the fault.
 pub const ACCEPTED: u8 = 0;
@@ -68,7 +66,7 @@ pub fn outcome(answer: Answer<String>, sheet: &[u8], given: &Given, names: &Name
 }
 
 fn answer(request: Request, sheet: &[u8], names: &Names) -> Answer<String> {
-    let mut area = [0; AREA];
+    let mut area = [0; MOST_AREA];
     let (title, total, written) = match request {
         Request::Read => {
             let counts = library::read(sheet)?;
@@ -86,7 +84,7 @@ fn answer(request: Request, sheet: &[u8], names: &Names) -> Answer<String> {
 }
 
 fn given(request: Request) -> Given {
-    let lent = Given { area: Some(AREA), ..Given::default() };
+    let lent = Given { area: Some(MOST_AREA), ..Given::default() };
     match request {
         Request::Read | Request::Show => Given::default(),
         Request::OpenPlan => lent,

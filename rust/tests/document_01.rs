@@ -1,35 +1,6 @@
 //! The examples of document 01, section "Marked sheets and others", and its questions one by one, put to every implementation.
+use planner::calls::{Calls, PlanCall as Call, ALL};
 use planner::{Answer, Counts, Written};
-
-struct Implementation {
-    name: &'static str,
-    read: fn(&[u8]) -> Answer<Counts>,
-    price: fn(&[u8], u32, &mut [u8]) -> Answer<Written>,
-    open_plan: fn(&[u8], &mut [u8]) -> Answer<Written>,
-    limited_plan: fn(&[u8], usize, &mut [u8]) -> Answer<Written>,
-}
-
-macro_rules! implementation {
-    ($module:ident) => {
-        Implementation {
-            name: stringify!($module),
-            read: planner::$module::read,
-            price: planner::$module::price,
-            open_plan: planner::$module::open_plan,
-            limited_plan: planner::$module::limited_plan,
-        }
-    };
-}
-
-const IMPLEMENTATIONS: &[Implementation] = &[implementation!(library), implementation!(literal)];
-
-/// A call that lends an area, as a test names it.
-#[derive(Clone, Copy, Debug)]
-enum Call {
-    Price(u32),
-    Open,
-    Limited(usize),
-}
 
 /// What an area holds before a call.
 const BEFORE: u8 = 0xA7;
@@ -85,24 +56,20 @@ fn plan(open: &[(usize, u32)], farms: &[(usize, u32)], total: u32, moves: u32) -
 }
 
 /// The answer to a call, and the lent area after it.
-fn result(implementation: &Implementation, sheet: &[u8], call: Call, area_bytes: usize) -> (Answer<Written>, Vec<u8>) {
+fn result(calls: &Calls, sheet: &[u8], call: Call, area_bytes: usize) -> (Answer<Written>, Vec<u8>) {
     let mut area = vec![BEFORE; area_bytes];
-    let answer = match call {
-        Call::Price(set) => (implementation.price)(sheet, set, &mut area),
-        Call::Open => (implementation.open_plan)(sheet, &mut area),
-        Call::Limited(k) => (implementation.limited_plan)(sheet, k, &mut area),
-    };
+    let answer = call.made(calls, sheet, &mut area);
     (answer, area)
 }
 
 /// The call gives this plan and these moves, and the area past the plan is unchanged.
 fn check_plan(sheet: &[u8], call: Call, plan: &[u8], moves: u32) {
-    for implementation in IMPLEMENTATIONS {
+    for calls in &ALL {
         for area_bytes in [least_area(sheet), AMPLE] {
-            let (answer, area) = result(implementation, sheet, call, area_bytes);
-            assert_eq!(answer, Ok(Written { bytes: plan.len(), moves }), "{} {call:?}", implementation.name);
-            assert_eq!(&area[..plan.len()], plan, "{} {call:?}", implementation.name);
-            assert!(area[plan.len()..].iter().all(|&byte| byte == BEFORE), "{} {call:?}", implementation.name);
+            let (answer, area) = result(calls, sheet, call, area_bytes);
+            assert_eq!(answer, Ok(Written { bytes: plan.len(), moves }), "{} {call:?}", calls.name);
+            assert_eq!(&area[..plan.len()], plan, "{} {call:?}", calls.name);
+            assert!(area[plan.len()..].iter().all(|&byte| byte == BEFORE), "{} {call:?}", calls.name);
         }
     }
 }
@@ -116,26 +83,32 @@ fn least_area(sheet: &[u8]) -> usize {
 
 /// The call is refused with this number and the area holds what it held before.
 fn check_refused(sheet: &[u8], call: Call, area_bytes: usize, number: u8) {
-    for implementation in IMPLEMENTATIONS {
-        let (answer, area) = result(implementation, sheet, call, area_bytes);
-        assert_eq!(answer, Err(number), "{} {call:?}", implementation.name);
-        assert!(area.iter().all(|&byte| byte == BEFORE), "{} {call:?}", implementation.name);
+    for calls in &ALL {
+        let (answer, area) = result(calls, sheet, call, area_bytes);
+        assert_eq!(answer, Err(number), "{} {call:?}", calls.name);
+        assert!(area.iter().all(|&byte| byte == BEFORE), "{} {call:?}", calls.name);
     }
 }
 
 /// Reading returns these counts.
 fn check_read(sheet: &[u8], yards: usize, farms: usize) {
-    for implementation in IMPLEMENTATIONS {
-        assert_eq!((implementation.read)(sheet), Ok(Counts { yards, farms }), "{}", implementation.name);
+    for calls in &ALL {
+        assert_eq!((calls.read)(sheet), Ok(Counts { yards, farms }), "{}", calls.name);
     }
 }
 
 /// Every call is refused with this number, even where a later question would be answered no too.
 fn check_sheet_refused(sheet: &[u8], number: u8) {
-    for implementation in IMPLEMENTATIONS {
-        assert_eq!((implementation.read)(sheet), Err(number), "{}", implementation.name);
+    for calls in &ALL {
+        assert_eq!((calls.read)(sheet), Err(number), "{}", calls.name);
     }
-    for call in [Call::Price(1), Call::Price(0), Call::Open, Call::Limited(1), Call::Limited(0)] {
+    for call in [
+        Call::Price { set: 1 },
+        Call::Price { set: 0 },
+        Call::OpenPlan,
+        Call::LimitedPlan { k: 1 },
+        Call::LimitedPlan { k: 0 },
+    ] {
         check_refused(sheet, call, AMPLE, number);
         check_refused(sheet, call, 0, number);
     }
@@ -155,36 +128,36 @@ fn open_plan_of_s_byte_for_byte() {
         0x4D, 0, 0, 0, 2, 0, 0, 0,
     ];
     check_read(&sheet_s(), 3, 3);
-    check_plan(&sheet_s(), Call::Open, &bytes, 2);
+    check_plan(&sheet_s(), Call::OpenPlan, &bytes, 2);
 }
 
 #[test]
 fn pricing_of_s() {
     let (s, farms) = (sheet_s(), [(0, 1), (0, 5), (2, 1)]);
-    check_plan(&s, Call::Price(0b101), &plan(&[(0, 1), (2, 2)], &farms, 10, 0), 0);
-    check_plan(&s, Call::Price(0b010), &plan(&[(1, 4)], &[(1, 3), (1, 1), (1, 5)], 13, 0), 0);
+    check_plan(&s, Call::Price { set: 0b101 }, &plan(&[(0, 1), (2, 2)], &farms, 10, 0), 0);
+    check_plan(&s, Call::Price { set: 0b010 }, &plan(&[(1, 4)], &[(1, 3), (1, 1), (1, 5)], 13, 0), 0);
     for set in [0, 0b1000, 0b1001, 1 << 31, 1 << 31 | 1, u32::MAX] {
-        check_refused(&s, Call::Price(set), AMPLE, 8);
-        check_refused(&s, Call::Price(set), 0, 8);
+        check_refused(&s, Call::Price { set }, AMPLE, 8);
+        check_refused(&s, Call::Price { set }, 0, 8);
     }
 }
 
 #[test]
 fn limited_plans_of_s() {
     let s = sheet_s();
-    check_plan(&s, Call::Limited(1), &plan(&[(1, 4)], &[(1, 3), (1, 1), (1, 5)], 9, 1), 1);
-    check_plan(&s, Call::Limited(2), &plan(&[(1, 4), (2, 2)], &[(1, 3), (1, 1), (2, 1)], 5, 1), 1);
-    check_plan(&s, Call::Limited(3), &plan(&[(0, 1), (1, 4), (2, 2)], &[(0, 1), (1, 1), (2, 1)], 3, 0), 0);
+    check_plan(&s, Call::LimitedPlan { k: 1 }, &plan(&[(1, 4)], &[(1, 3), (1, 1), (1, 5)], 9, 1), 1);
+    check_plan(&s, Call::LimitedPlan { k: 2 }, &plan(&[(1, 4), (2, 2)], &[(1, 3), (1, 1), (2, 1)], 5, 1), 1);
+    check_plan(&s, Call::LimitedPlan { k: 3 }, &plan(&[(0, 1), (1, 4), (2, 2)], &[(0, 1), (1, 1), (2, 1)], 3, 0), 0);
     for k in [0, 4, 32, 33, usize::MAX] {
-        check_refused(&s, Call::Limited(k), AMPLE, 7);
-        check_refused(&s, Call::Limited(k), 0, 7);
+        check_refused(&s, Call::LimitedPlan { k }, AMPLE, 7);
+        check_refused(&s, Call::LimitedPlan { k }, 0, 7);
     }
 }
 
 #[test]
 fn an_area_too_short_by_one_byte() {
     // `check_plan` lends the 64 bytes that are enough.
-    for call in [Call::Price(0b010), Call::Open, Call::Limited(1)] {
+    for call in [Call::Price { set: 0b010 }, Call::OpenPlan, Call::LimitedPlan { k: 1 }] {
         check_refused(&sheet_s(), call, 63, 9);
         check_refused(&sheet_s(), call, 0, 9);
     }
@@ -214,11 +187,11 @@ fn the_highest_amounts() {
     let dearest = even_sheet(32, 128, HIGHEST_FEE, HIGHEST_HAUL);
     let open: Vec<(usize, u32)> = (0..32).map(|yard| (yard, HIGHEST_FEE)).collect();
     let farms = [(0, HIGHEST_HAUL); 128];
-    check_plan(&dearest, Call::Price(u32::MAX), &plan(&open, &farms, 1_728_000_000, 0), 0);
-    check_plan(&dearest, Call::Open, &plan(&open[..1], &farms, 178_000_000, 0), 0);
-    check_plan(&dearest, Call::Limited(32), &plan(&open, &farms, 128_000_000, 0), 0);
-    check_refused(&dearest, Call::Limited(33), AMPLE, 7);
-    check_refused(&dearest, Call::Open, 1295, 9);
+    check_plan(&dearest, Call::Price { set: u32::MAX }, &plan(&open, &farms, 1_728_000_000, 0), 0);
+    check_plan(&dearest, Call::OpenPlan, &plan(&open[..1], &farms, 178_000_000, 0), 0);
+    check_plan(&dearest, Call::LimitedPlan { k: 32 }, &plan(&open, &farms, 128_000_000, 0), 0);
+    check_refused(&dearest, Call::LimitedPlan { k: 33 }, AMPLE, 7);
+    check_refused(&dearest, Call::OpenPlan, 1295, 9);
 }
 
 #[test]
@@ -278,5 +251,5 @@ fn a_search_with_every_kind_of_move() {
     let farms = [[7, 4, 4, 14, 11], [6, 5, 11, 21, 18], [14, 13, 7, 7, 4], [16, 15, 9, 13, 10]];
     let sheet = sheet(&[1, 3, 4, 0, 1], &farms);
     let settled = plan(&[(1, 3), (4, 1)], &[(1, 4), (1, 5), (4, 4), (4, 10)], 27, 4);
-    check_plan(&sheet, Call::Open, &settled, 4);
+    check_plan(&sheet, Call::OpenPlan, &settled, 4);
 }

@@ -1,4 +1,5 @@
 //! The example sheets: each is what its table makes, and the tool and the library say of it what stands beside it.
+use planner::format::{amount, FARM, MOST_AREA, MOVES, OPEN, RECORD, TOTAL};
 use planner::table::Table;
 use planner::words::{said, Names, Request, ACCEPTED};
 use planner::{csv, library};
@@ -26,16 +27,16 @@ fn typed(example: &str) -> (Table, Names, Vec<u8>) {
 /// What the program `plan` prints for the records of a plan area.
 fn lines(area: &[u8]) -> String {
     let line = |record: &[u8]| {
-        let (yard, farm, amount) = (record[1], record[2], u32::from_le_bytes(record[4..].try_into().unwrap()));
+        let (yard, farm, amount) = (record[1], record[2], amount(record));
         match record[0] {
-            0x4F => format!("open {yard} {amount}\n"),
-            0x41 => format!("farm {farm} {yard} {amount}\n"),
-            0x54 => format!("total {amount}\n"),
-            0x4D => format!("moves {amount}\n"),
+            OPEN => format!("open {yard} {amount}\n"),
+            FARM => format!("farm {farm} {yard} {amount}\n"),
+            TOTAL => format!("total {amount}\n"),
+            MOVES => format!("moves {amount}\n"),
             kind => panic!("a record of kind {kind:02X}"),
         }
     };
-    area.chunks(8).map(line).collect()
+    area.chunks(RECORD).map(line).collect()
 }
 
 #[test]
@@ -50,7 +51,7 @@ fn each_sheet_is_what_its_table_makes() {
 fn each_plan_is_the_librarys() {
     for example in EXAMPLES {
         let (_, _, sheet) = typed(example);
-        let mut area = [0; 2000];
+        let mut area = [0; MOST_AREA];
         let written = library::open_plan(&sheet, &mut area).unwrap();
         assert_eq!(lines(&area[..written.bytes]), text(&format!("{example}.plan")), "{example}");
     }
@@ -68,9 +69,9 @@ fn each_plan_in_words_is_what_the_tool_prints() {
 #[test]
 fn the_plan_for_the_boerde_leases_some_yards_and_not_all() {
     let (table, _, sheet) = typed("boerde");
-    let mut area = [0; 2000];
+    let mut area = [0; MOST_AREA];
     let written = library::open_plan(&sheet, &mut area).unwrap();
-    let open = area[..written.bytes].chunks(8).filter(|record| record[0] == 0x4F).count();
+    let open = area[..written.bytes].chunks(RECORD).filter(|record| record[0] == OPEN).count();
     assert!(1 < open && open < table.fees.len(), "{open} yards");
 }
 

@@ -1,6 +1,7 @@
 //! What the tool says: the fault of every kind of refused call, the faults of typed tables, and the exit statuses.
+use planner::format::record;
 use planner::random::Random;
-use planner::table::{record, Table};
+use planner::table::Table;
 use planner::words::refusal::{explained, first_fault, Given};
 use planner::words::{outcome, said, Names, Request};
 use planner::{csv, library, Answer};

@@ -1,23 +1,20 @@
-//! Seeded sheets of every kind: tables that keep or break the rules for amounts (`tables`), sheets that reading accepts or that
-//! may break question 6 (`plain`), and sheets with faults made on purpose or by chance (`damaged`).
+//! Seeded sheets of every kind: tables by the way their amounts are drawn (`tables`), sheets of good form (`plain`), sheets
+//! with a fault made on purpose (`faults`) or by chance (`chance`), and those that document 01 names (`named`).
+use crate::random::Random;
+use crate::table::Table;
 use crate::{Answer, Counts};
 
+mod chance;
+mod faults;
+mod named;
+mod plain;
 mod tables;
 
+pub use chance::{battered, loose_records, random_bytes};
+pub use faults::{faulty, several_faults};
+pub use named::named;
+pub use plain::{accepted, broken_by_one_cent, kept_to_the_cent, unrepaired};
 pub use tables::{from_lists, manhattan, plane, repair, small_amounts, within_threefold};
-
-/// The bounds of questions 1, 3, 4 and 5 of document 01.
-pub const SHORTEST_SHEET: usize = 16;
-pub const LONGEST_SHEET: usize = 33_024;
-pub const MOST_YARDS: usize = 32;
-pub const MOST_FARMS: usize = 128;
-pub const HIGHEST_FEE: u32 = 50_000_000;
-pub const HIGHEST_HAUL: u32 = 1_000_000;
-
-/// The length of a record and its kinds in a sheet.
-pub const RECORD: usize = 8;
-pub const YARD: u8 = 0x59;
-pub const HAUL: u8 = 0x48;
 
 /// A sheet under the name that a failed comparison prints.
 #[derive(Clone, Debug)]
@@ -26,4 +23,18 @@ pub struct Sample {
     pub sheet: Vec<u8>,
     /// What reading answers, where the way the sheet was made settles it.
     pub reading: Option<Answer<Counts>>,
+}
+
+impl Sample {
+    /// A sheet of the right form, which reading accepts or refuses for the given question.
+    fn of_table(name: &str, table: &Table, refused: Option<u8>) -> Sample {
+        let counts = Counts { yards: table.fees.len(), farms: table.hauls.len() };
+        let name = format!("{name}, {} yards, {} farms", counts.yards, counts.farms);
+        Sample { name, sheet: table.sheet(), reading: Some(refused.map_or(Ok(counts), Err)) }
+    }
+}
+
+/// A number below `count`.
+fn below(random: &mut Random, count: usize) -> usize {
+    random.between(0, count as u64 - 1) as usize
 }

@@ -1,5 +1,5 @@
 //! Tables of fees and hauls, by the way their amounts are drawn.
-use super::{HIGHEST_FEE, HIGHEST_HAUL};
+use crate::format::{HIGHEST_FEE, HIGHEST_HAUL};
 use crate::random::Random;
 use crate::table::Table;
 
@@ -20,7 +20,7 @@ pub fn plane(random: &mut Random, yards: usize, farms: usize, span: u32, highest
     table
 }
 
-/// Yards and farms at points of a grid; a haul is the sum of the differences in both directions, which keeps question 6 exactly.
+/// Yards and farms at points of a grid; a haul is the sum of the differences in both directions, which keeps question 6.
 pub fn manhattan(random: &mut Random, yards: usize, farms: usize, side: u32, highest_fee: u32) -> Table {
     let yard_points = points(random, yards, side);
     let farm_points = points(random, farms, side);

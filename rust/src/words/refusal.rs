@@ -3,16 +3,10 @@
 //! The number of a refusal is the library's. The fault is searched here, from the document alone, and must be of that number.
 use super::questions::QUESTIONS;
 use super::Names;
-
-pub const MOST_YARDS: usize = 32;
-pub const MOST_FARMS: usize = 128;
-pub const RECORD: usize = 8;
-const LEAST_BYTES: usize = 16;
-const MOST_BYTES: usize = 33_024;
-const MOST_FEE: u32 = 50_000_000;
-const MOST_HAUL: u32 = 1_000_000;
-const YARD: u8 = 0x59;
-const HAUL: u8 = 0x48;
+use crate::format::{
+    amount, least_area, HAUL, HIGHEST_FEE, HIGHEST_HAUL, LONGEST_SHEET, MOST_FARMS, MOST_YARDS, RECORD, SHORTEST_SHEET,
+    YARD,
+};
 
 /// What a call was given beside the sheet.
 #[derive(Clone, Copy, Debug, Default)]
@@ -80,14 +74,10 @@ fn described(record: &[u8], at: usize) -> String {
     format!("Record {at} (counted from 0), at byte {}: {} hex: {meaning}.", at * RECORD, hex.join(" "))
 }
 
-pub fn amount(record: &[u8]) -> u32 {
-    u32::from_le_bytes([record[4], record[5], record[6], record[7]])
-}
-
 /// Question 1.
 fn length(sheet: &[u8]) -> Option<Fault> {
     let bytes = sheet.len();
-    if bytes.is_multiple_of(RECORD) && (LEAST_BYTES..=MOST_BYTES).contains(&bytes) {
+    if bytes.is_multiple_of(RECORD) && (SHORTEST_SHEET..=LONGEST_SHEET).contains(&bytes) {
         return None;
     }
     let (whole, over) = (bytes / RECORD, bytes % RECORD);
@@ -155,7 +145,7 @@ fn place(at: usize, m: usize) -> (usize, usize) {
 
 /// Question 5.
 fn amounts(records: &[&[u8]]) -> Option<Fault> {
-    let bound = |record: &[u8]| if record[0] == YARD { ("fee", MOST_FEE) } else { ("haul", MOST_HAUL) };
+    let bound = |record: &[u8]| if record[0] == YARD { ("fee", HIGHEST_FEE) } else { ("haul", HIGHEST_HAUL) };
     let at = records.iter().position(|record| amount(record) > bound(record).1)?;
     let (word, most) = bound(records[at]);
     at_record(5, records, at, format!("Its {word} is {}. Asked: at most {most}.", amount(records[at])))
@@ -209,7 +199,7 @@ fn beside(given: &Given, m: usize, n: usize) -> Option<Fault> {
         let asked = format!("Asked: at least one of the sheet's {m} yards, 0 to {}, and no other.", m - 1);
         return without_record(8, format!("The set is {set:08X} hex and marks {marks}. {asked}"));
     }
-    let asked = RECORD * (m + n + 2);
+    let asked = least_area(m, n);
     let area = given.area.filter(|&area| area < asked)?;
     without_record(9, format!("The area has {area} bytes. Asked: at least {RECORD} × ({m} + {n} + 2) = {asked}."))
 }

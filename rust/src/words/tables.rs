@@ -1,13 +1,7 @@
 //! A sheet and a plan as tables, one line for each yard and each farm. Amounts are cents.
-use super::refusal::{amount, RECORD};
 use super::Names;
+use crate::format::{amount, FARM, MOVES, OPEN, RECORD, TOTAL};
 use crate::Counts;
-
-/// The kinds of a plan's records.
-const OPEN: u8 = 0x4F;
-const FARM: u8 = 0x41;
-const TOTAL: u8 = 0x54;
-const MOVES: u8 = 0x4D;
 
 /// The fee of each yard, then each farm's hauls under the numbers of the yards.
 pub fn sheet(sheet: &[u8], counts: Counts, names: &Names) -> String {

@@ -1,0 +1,89 @@
+//! The searches for both plans.
+use super::area;
+use super::float;
+use super::near::{Near, Yards};
+use super::prices::Prices;
+use super::sheet::{Hauls, MOST_FARMS, MOST_YARDS};
+use crate::Written;
+
+/// The open plan of an accepted sheet, in an area that question 9 accepts.
+pub fn open_plan_of(hauls: &Hauls, area: &mut [u8]) -> Written {
+    let mut search = Search::new(hauls, 1 << cheapest_yard(hauls));
+    while let Some(next) = search.prices.open_move(hauls, search.set, &search.yards) {
+        search.go_to(next);
+    }
+    search.write(&hauls.fees, area)
+}
+
+/// The limited plan of an accepted sheet for a k that question 7 accepts, in an area that question 9 accepts.
+pub fn limited_plan_of(hauls: &Hauls, k: usize, area: &mut [u8]) -> Written {
+    let mut search = Search::new(hauls, u32::MAX >> (MOST_YARDS - k));
+    while let Some(next) = search.prices.limited_move(search.set, &search.yards) {
+        search.go_to(next);
+    }
+    search.write(&[0; MOST_YARDS], area)
+}
+
+/// The single yard of least full cost, the lowest number among equals.
+fn cheapest_yard(hauls: &Hauls) -> usize {
+    let mut costs = hauls.fees;
+    for row in hauls.rows() {
+        for (cost, &held) in costs.iter_mut().zip(row) {
+            *cost += float::haul(held);
+        }
+    }
+    let least = costs[..hauls.yards].iter().min();
+    costs.iter().position(|cost| Some(cost) == least).unwrap_or(0)
+}
+
+/// A set on the way, with each farm's nearest yards and the costs of all moves.
+struct Search<'a> {
+    hauls: &'a Hauls,
+    set: u32,
+    yards: Yards,
+    moves: u32,
+    near: [Near; MOST_FARMS],
+    prices: Prices,
+}
+
+impl<'a> Search<'a> {
+    fn new(hauls: &'a Hauls, set: u32) -> Search<'a> {
+        let yards = Yards::of(set);
+        let mut near = [Near::NONE; MOST_FARMS];
+        let mut prices = Prices::none(hauls.farms);
+        for (row, near) in hauls.rows().iter().zip(&mut near) {
+            *near = Near::of(row, &yards);
+            prices.put(row, *near);
+        }
+        Search { hauls, set, yards, moves: 0, near, prices }
+    }
+
+    /// Makes the move to this set. Only the farms whose nearest yards change are priced again.
+    fn go_to(&mut self, next: u32) {
+        let came = next & !self.set;
+        let went = self.set & !next;
+        self.set = next;
+        self.yards = Yards::of(next);
+        self.moves += 1;
+        for (row, near) in self.hauls.rows().iter().zip(&mut self.near) {
+            let mut now = *near;
+            if came != 0 {
+                now = now.with(row, came.trailing_zeros() as usize);
+            }
+            if now.goes_to(went) {
+                now = Near::of(row, &self.yards);
+            }
+            if now != *near {
+                self.prices.take(row, *near);
+                self.prices.put(row, now);
+                *near = now;
+            }
+        }
+    }
+
+    /// Writes the plan. Its total counts these fees.
+    fn write(&self, fees: &[u32; MOST_YARDS], area: &mut [u8]) -> Written {
+        let served = self.near.iter().map(|near| near.first);
+        area::write(self.hauls, &self.yards, served, fees, self.moves, area)
+    }
+}

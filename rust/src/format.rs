@@ -1,0 +1,41 @@
+//! The records of sheets and plans, and document 01's bounds, for all that is here but `literal`, which has its own.
+
+/// The bytes of a record.
+pub const RECORD: usize = 8;
+
+/// The kinds of a sheet's records.
+pub const YARD: u8 = 0x59;
+pub const HAUL: u8 = 0x48;
+
+/// The kinds of a plan's records.
+pub const OPEN: u8 = 0x4F;
+pub const FARM: u8 = 0x41;
+pub const TOTAL: u8 = 0x54;
+pub const MOVES: u8 = 0x4D;
+
+/// The bounds of questions 1, 3, 4 and 5.
+pub const SHORTEST_SHEET: usize = 16;
+pub const LONGEST_SHEET: usize = 33_024;
+pub const MOST_YARDS: usize = 32;
+pub const MOST_FARMS: usize = 128;
+pub const HIGHEST_FEE: u32 = 50_000_000;
+pub const HIGHEST_HAUL: u32 = 1_000_000;
+
+/// What question 9 asks of the area.
+pub const fn least_area(yards: usize, farms: usize) -> usize {
+    RECORD * (yards + farms + 2)
+}
+
+/// An area for the plan of every sheet.
+pub const MOST_AREA: usize = least_area(MOST_YARDS, MOST_FARMS);
+
+/// One record. Numbers above 255 lose their high part, as faulty sheets may have it.
+pub fn record(kind: u8, yard: usize, farm: usize, amount: u32) -> [u8; RECORD] {
+    let [a, b, c, d] = amount.to_le_bytes();
+    [kind, yard as u8, farm as u8, 0, a, b, c, d]
+}
+
+/// The amount of a record.
+pub fn amount(record: &[u8]) -> u32 {
+    u32::from_le_bytes([record[4], record[5], record[6], record[7]])
+}

@@ -1,0 +1,52 @@
+//! Document 01's cases beside the marked ones, and sheets and calls with several faults at once: each sheet is built
+//! here, and what the calls answer and leave in the area makes a line. The file `lines` has the lines that must come,
+//! checked by hand.
+mod planning;
+mod reading;
+mod sheets;
+
+use planner::calls::{Calls, FAST, LIBRARY, LITERAL};
+use planner::{library, literal};
+
+const MUST_COME: &str = include_str!("lines");
+const LINE_COUNT: usize = 90;
+
+/// How an implementation gives a farm's stretch.
+type FarmHauls = fn(&[u8], usize) -> Vec<u8>;
+
+/// The library gives a farm's stretch byte by byte.
+fn library_farm_hauls(sheet: &[u8], farm: usize) -> Vec<u8> {
+    (0..library::farm_len(sheet, farm)).map(|at| library::farm_byte(sheet, farm, at)).collect()
+}
+
+/// Compares line by line, and shows every difference before it fails.
+fn compare(calls: &Calls, farm_hauls: FarmHauls) {
+    let came = [reading::all(calls), reading::farms(farm_hauls), planning::all(calls)].concat();
+    let must_come: Vec<&str> = MUST_COME.lines().collect();
+    assert_eq!(must_come.len(), LINE_COUNT, "lines in the file");
+    assert_eq!(came.len(), LINE_COUNT, "{}: lines that came", calls.name);
+    let mut differences = 0;
+    for (at, (came, must_come)) in came.iter().zip(must_come).enumerate() {
+        if came != must_come {
+            println!("{}, line {}:\n  came:      {came}\n  must come: {must_come}", calls.name, at + 1);
+            differences += 1;
+        }
+    }
+    assert_eq!(differences, 0, "{}: lines that differ", calls.name);
+}
+
+#[test]
+fn the_library_gives_the_lines() {
+    compare(&LIBRARY, library_farm_hauls);
+}
+
+#[test]
+fn the_literal_program_gives_the_lines() {
+    compare(&LITERAL, |sheet, farm| literal::farm_hauls(sheet, farm).to_vec());
+}
+
+/// It has no call for a farm's stretch: the library's stands there.
+#[test]
+fn the_fast_program_gives_the_lines() {
+    compare(&FAST, library_farm_hauls);
+}

@@ -1,0 +1,68 @@
+//! Sheets for the cases: document 01's S, sheets with one fee and one haul throughout, and what goes into them.
+use planner::format::{record, HAUL, RECORD, YARD};
+use planner::table::Table;
+
+pub type Record = [u8; RECORD];
+
+const S_YARDS: usize = 3;
+const S_FARMS: usize = 3;
+pub const S_LENGTH: usize = RECORD * (S_YARDS + S_YARDS * S_FARMS);
+
+/// A kind that is neither a yard's nor a haul's.
+pub const KIND_5A: u8 = 0x5a;
+
+pub fn yard(number: usize, fee: u32) -> Record {
+    record(YARD, number, 0, fee)
+}
+
+pub fn haul(farm: usize, yard: usize, amount: u32) -> Record {
+    record(HAUL, yard, farm, amount)
+}
+
+/// Document 01's sheet S.
+pub fn s() -> Vec<u8> {
+    Table { fees: vec![1, 4, 2], hauls: vec![vec![1, 3, 9], vec![5, 1, 5], vec![9, 5, 1]] }.sheet()
+}
+
+/// The offset of a yard's record in S.
+pub fn yard_place(yard: usize) -> usize {
+    RECORD * yard
+}
+
+/// The offset of a haul's record in S.
+pub fn haul_place(farm: usize, yard: usize) -> usize {
+    RECORD * (S_YARDS + S_YARDS * farm + yard)
+}
+
+/// A sheet cut to so many bytes, or made longer with zeros.
+pub fn of_length(mut sheet: Vec<u8>, length: usize) -> Vec<u8> {
+    sheet.resize(length, 0);
+    sheet
+}
+
+/// S of so many bytes, with records replaced, each at its offset.
+pub fn changed_s(changes: &[(usize, Record)], length: usize) -> Vec<u8> {
+    let mut sheet = of_length(s(), length);
+    for (at, record) in changes {
+        sheet[*at..*at + RECORD].copy_from_slice(record);
+    }
+    sheet
+}
+
+/// A sheet with one fee and one haul throughout.
+pub fn uniform(yards: usize, farms: usize, fee: u32, haul: u32) -> Vec<u8> {
+    Table { fees: vec![fee; yards], hauls: vec![vec![haul; yards]; farms] }.sheet()
+}
+
+/// Four yards and four farms. The open search starts at yard 3, adds 0 and then 1, swaps 3 for 2, and drops 0.
+pub fn dropping() -> Vec<u8> {
+    let hauls = vec![vec![3, 14, 4, 8], vec![9, 10, 2, 4], vec![9, 4, 8, 2], vec![12, 1, 11, 5]];
+    Table { fees: vec![2, 3, 3, 5], hauls }.sheet()
+}
+
+/// Four yards and four farms. The lowest move adds yard 0 to 3, which ends the search; by the first lowering moves it
+/// would end in yards 1, 2 and 3.
+pub fn lowest() -> Vec<u8> {
+    let hauls = vec![vec![2, 5, 2, 4], vec![3, 2, 3, 1], vec![2, 5, 2, 4], vec![2, 1, 4, 4]];
+    Table { fees: vec![3, 1, 2, 0], hauls }.sheet()
+}

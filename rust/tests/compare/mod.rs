@@ -1,0 +1,182 @@
+//! Every call on one sheet: the proved library against the other programs, area and all, byte for byte.
+mod tally;
+
+use planner::calls::{Calls, PlanCall, FAST, LIBRARY, LITERAL};
+use planner::format::{least_area, MOST_AREA, MOST_FARMS, MOST_YARDS, RECORD};
+use planner::random::Random;
+use planner::samples::Sample;
+use planner::{library, literal, Answer, Counts};
+pub use tally::{Name, Tally};
+
+/// `fast` is among them so that the benchmark compares like with like.
+const OTHERS: [Calls; 2] = [LITERAL, FAST];
+/// Sheets with more hauls than this get a choice of sets, counts, areas and bytes only.
+const MANY_HAULS: usize = 300;
+const CHOICE: usize = 3;
+/// Bytes before and behind the lent area, which no call may touch.
+const MARGIN: usize = 24;
+/// A failed comparison prints sheets up to this length.
+const LONGEST_PRINTED: usize = 1_024;
+
+/// One sheet under comparison.
+struct Comparison<'a> {
+    sample: &'a Sample,
+    seed: u64,
+    random: Random,
+    tally: &'a mut Tally,
+}
+
+/// Makes every call on the sheet, with sets, counts, areas and their bytes drawn from the seed.
+pub fn every_call(sample: &Sample, seed: u64, tally: &mut Tally) {
+    let before = sample.sheet.clone();
+    let mut comparison = Comparison { sample, seed, random: Random::new(!seed), tally };
+    let reading = comparison.reading();
+    comparison.stretches();
+    match reading {
+        Ok(counts) => comparison.plans(counts),
+        Err(_) => comparison.refusals(),
+    }
+    assert!(before == sample.sheet, "seed {seed}, {}: a call wrote to the sheet", sample.name);
+}
+
+impl Comparison<'_> {
+    fn reading(&mut self) -> Answer<Counts> {
+        let sheet = &self.sample.sheet;
+        let answer = library::read(sheet);
+        for program in &OTHERS {
+            let (name, other) = (program.name, (program.read)(sheet));
+            assert!(answer == other, "read: library {answer:?}, {name} {other:?}; {}", self.sheet());
+        }
+        if let Some(made) = self.sample.reading {
+            assert!(answer == made, "read: library {answer:?}, made to give {made:?}; {}", self.sheet());
+        }
+        self.tally.answer(Name::Read, answer.err());
+        answer
+    }
+
+    /// The stretches of farms below, at and above n, and their bytes to past the end.
+    fn stretches(&mut self) {
+        let farms = farms_of_good_form(&self.sample.sheet);
+        for farm in [0, 1, farms.saturating_sub(1), farms, farms + 1, MOST_FARMS, 256, 1 << 32, usize::MAX] {
+            let other = literal::farm_hauls(&self.sample.sheet, farm);
+            let length = library::farm_len(&self.sample.sheet, farm);
+            assert!(length == other.len(), "farm_len {farm}: {length}, literal {}; {}", other.len(), self.sheet());
+            self.tally.stretch(length);
+            let step = if self.sample.sheet.len() > RECORD * MANY_HAULS { 29 } else { 1 };
+            for at in (0..length + RECORD).step_by(step).chain([length, 1 << 32, usize::MAX]) {
+                let expected = other.get(at).copied().unwrap_or(0);
+                let byte = library::farm_byte(&self.sample.sheet, farm, at);
+                assert!(byte == expected, "farm_byte {farm}, {at}: {byte}, literal {expected}; {}", self.sheet());
+                self.tally.bytes += 1;
+            }
+        }
+    }
+
+    /// Calls on a sheet that reading refuses.
+    fn refusals(&mut self) {
+        let any_set = self.random.draw() as u32;
+        let mut calls = vec![PlanCall::OpenPlan];
+        calls.extend([0, 1, any_set].map(|set| PlanCall::Price { set }));
+        calls.extend([0, 1, usize::MAX].map(|k| PlanCall::LimitedPlan { k }));
+        for call in calls {
+            let any_length = self.random.between(1, MOST_AREA as u64) as usize;
+            for length in [0, any_length, MOST_AREA + 1] {
+                self.plan(call, length);
+            }
+        }
+    }
+
+    /// Calls on an accepted sheet.
+    fn plans(&mut self, counts: Counts) {
+        let enough = least_area(counts.yards, counts.farms);
+        let large = counts.yards * counts.farms > MANY_HAULS;
+        for call in self.calls(counts.yards, large) {
+            let written = self.plan(call, enough);
+            let mut lengths = vec![enough - 1, enough + 1, enough + self.random.between(2, 99) as usize, 0];
+            lengths.extend(written);
+            if large {
+                lengths = self.some_of(1, lengths);
+            }
+            for length in lengths {
+                self.plan(call, length);
+            }
+        }
+    }
+
+    /// Sets with and without marks at m and above; counts from 0 to past m, and ones whose low part alone would pass.
+    fn calls(&mut self, yards: usize, large: bool) -> Vec<PlanCall> {
+        let all = u32::MAX >> (u32::BITS as usize - yards);
+        let mut next = || self.random.draw() as u32;
+        let within = [1, all, all >> (yards / 2), next() & all, next() & all, next() & all, next() & next() & all];
+        let past_all = [0, u32::MAX, 1 << 31, all.wrapping_add(1), all.wrapping_add(1) | next() & all, next()];
+        let mut sets: Vec<u32> = within.into_iter().chain(past_all).collect();
+        let past_yards = [yards + 1, MOST_YARDS + 1, 257, (1 << 32) + 1, usize::MAX];
+        let mut counts: Vec<usize> = (0..=yards).chain(past_yards).collect();
+        if large {
+            (sets, counts) = (self.some_of(CHOICE, sets), self.some_of(CHOICE, counts));
+            sets.push(all);
+        }
+        let mut calls = vec![PlanCall::OpenPlan];
+        calls.extend(sets.into_iter().map(|set| PlanCall::Price { set }));
+        calls.extend(counts.into_iter().map(|k| PlanCall::LimitedPlan { k }));
+        calls
+    }
+
+    /// One call with an area of the given length, filled with random bytes before: the library's against each other program's.
+    /// Gives the bytes written, if the call is accepted.
+    fn plan(&mut self, call: PlanCall, length: usize) -> Option<usize> {
+        let pattern: Vec<u8> = (0..length + 2 * MARGIN).map(|_| self.random.draw() as u8).collect();
+        let lent = MARGIN..MARGIN + length;
+        let mut area = pattern.clone();
+        let answer = call.made(&LIBRARY, &self.sample.sheet, &mut area[lent.clone()]);
+        let ours = || format!("{call:?} with an area of {length} bytes: library {answer:?}");
+        for program in &OTHERS {
+            let mut other_area = pattern.clone();
+            let other = call.made(program, &self.sample.sheet, &mut other_area[lent.clone()]);
+            let (name, difference) = (program.name, first_difference(&area, &other_area));
+            let same = answer == other && difference.is_none();
+            assert!(same, "{}, {name} {other:?}; {difference:?}; {}", ours(), self.sheet());
+        }
+        let written = answer.map(|written| written.bytes).ok();
+        let plan = MARGIN..MARGIN + written.unwrap_or(0);
+        let mut expected = pattern;
+        expected[plan.clone()].copy_from_slice(&area[plan]);
+        let difference = first_difference(&area, &expected);
+        assert!(difference.is_none(), "{}; not as before the call: {difference:?}; {}", ours(), self.sheet());
+        self.tally.answer(Name::of(call), answer.err());
+        written
+    }
+
+    fn some_of<T: Copy>(&mut self, count: usize, list: Vec<T>) -> Vec<T> {
+        (0..count).map(|_| list[self.random.between(0, list.len() as u64 - 1) as usize]).collect()
+    }
+
+    /// The sheet in the message of a failed comparison.
+    fn sheet(&self) -> String {
+        let Sample { name, sheet, .. } = self.sample;
+        let printed = sheet.iter().take(LONGEST_PRINTED).map(|byte| format!("{byte:02x}")).collect::<String>();
+        format!("seed {}, {name}, {} bytes: {printed}", self.seed, sheet.len())
+    }
+}
+
+/// How many farms a sheet of good form has, 0 for others: each farm's stretch is as long as that of farm 0 or the yards.
+fn farms_of_good_form(sheet: &[u8]) -> usize {
+    match literal::farm_hauls(sheet, 0).len() {
+        0 => 0,
+        stretch => sheet.len() / stretch - 1,
+    }
+}
+
+/// A byte of the area, counted from its start, with its two values; below 0 and past the end it lies in a margin.
+#[derive(Debug)]
+#[allow(dead_code)] // read by the message of a failed comparison
+struct Difference {
+    byte: isize,
+    library: u8,
+    other: u8,
+}
+
+fn first_difference(area: &[u8], other: &[u8]) -> Option<Difference> {
+    let at = (0..area.len()).find(|&at| area[at] != other[at])?;
+    Some(Difference { byte: at as isize - MARGIN as isize, library: area[at], other: other[at] })
+}

@@ -1,0 +1,65 @@
+//! How many calls were compared, by call and by answer.
+use planner::calls::PlanCall;
+
+#[derive(Clone, Copy, Debug)]
+pub enum Name {
+    Read,
+    Price,
+    OpenPlan,
+    LimitedPlan,
+}
+
+impl Name {
+    pub fn of(call: PlanCall) -> Name {
+        match call {
+            PlanCall::Price { .. } => Name::Price,
+            PlanCall::OpenPlan => Name::OpenPlan,
+            PlanCall::LimitedPlan { .. } => Name::LimitedPlan,
+        }
+    }
+}
+
+const NAMES: [Name; 4] = [Name::Read, Name::Price, Name::OpenPlan, Name::LimitedPlan];
+
+#[derive(Default)]
+pub struct Tally {
+    /// For each call, how often it was accepted (place 0) and refused with each number.
+    answers: [[u64; 10]; 4],
+    pub whole_stretches: u64,
+    pub empty_stretches: u64,
+    pub bytes: u64,
+}
+
+impl Tally {
+    pub fn answer(&mut self, name: Name, refused: Option<u8>) {
+        self.answers[name as usize][usize::from(refused.unwrap_or(0))] += 1;
+    }
+
+    pub fn stretch(&mut self, length: usize) {
+        if length == 0 {
+            self.empty_stretches += 1;
+        } else {
+            self.whole_stretches += 1;
+        }
+    }
+
+    /// Calls of reading, pricing and plans; the many calls for the length or a byte of a stretch are not among them.
+    pub fn calls(&self) -> u64 {
+        self.answers.iter().flatten().sum()
+    }
+
+    /// How often the call gave the answer: 0 for accepted, else the refusal number.
+    pub fn count(&self, name: Name, answer: u8) -> u64 {
+        self.answers[name as usize][usize::from(answer)]
+    }
+
+    pub fn print(&self) {
+        println!("{} calls, each accepted and refused with 1, 2, 3 and so on:", self.calls());
+        for name in NAMES {
+            let [accepted, refused @ ..] = self.answers[name as usize];
+            println!("{:>12} {accepted:>7} {refused:?}", format!("{name:?}"));
+        }
+        let Tally { whole_stretches, empty_stretches, bytes, .. } = self;
+        println!("{whole_stretches} whole stretches, {empty_stretches} empty ones, {bytes} bytes of them");
+    }
+}

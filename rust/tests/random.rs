@@ -1,0 +1,127 @@
+//! The proved library against the other programs on seeded sheets of every kind.
+//!
+//! `PLANNER_ROUNDS=20 cargo test --release --test random -- --nocapture` makes twenty rounds, the first as without it and
+//! each other with its own seeds. The counts printed are those of all rounds; the least counts grow with the rounds.
+mod compare;
+
+use compare::{every_call, Name, Tally};
+use planner::format::{MOST_FARMS, MOST_YARDS};
+use planner::random::Random;
+use planner::samples::{self, Sample};
+
+/// Sheets of each kind in a round.
+const SMALL_ACCEPTED: usize = 700;
+const UNREPAIRED: usize = 200;
+const TIGHT: usize = 60;
+const BROKEN: usize = 100;
+/// Of each of questions 1 to 5.
+const FAULTY: usize = 80;
+const SEVERAL_FAULTS: usize = 250;
+const BATTERED: usize = 400;
+const RANDOM_BYTES: usize = 60;
+const LOOSE: usize = 200;
+const MEDIUM: usize = 40;
+const FULL: usize = 4;
+
+/// Rounds compare at least this many calls each on average, and each answer that a call can give occurs so often for it.
+const LEAST_CALLS: u64 = 100_000;
+const LEAST_OF_READING: u64 = 50;
+const LEAST_OF_PLANS: u64 = 300;
+const LEAST_STRETCHES: u64 = 1_000;
+
+/// The answers that each call can give, 0 for accepted.
+const ANSWERS: [(Name, &[u8]); 4] = [
+    (Name::Read, &[0, 1, 2, 3, 4, 5, 6]),
+    (Name::Price, &[0, 1, 2, 3, 4, 5, 6, 8, 9]),
+    (Name::OpenPlan, &[0, 1, 2, 3, 4, 5, 6, 9]),
+    (Name::LimitedPlan, &[0, 1, 2, 3, 4, 5, 6, 7, 9]),
+];
+
+#[test]
+fn library_agrees_with_the_other_programs() {
+    let rounds = std::env::var("PLANNER_ROUNDS").map_or(1, |text| text.parse().expect("PLANNER_ROUNDS is a number"));
+    assert!(rounds > 0, "PLANNER_ROUNDS is at least 1");
+    let mut tally = Tally::default();
+    for round in 0..rounds {
+        for (seed, sample) in sheets(round) {
+            every_call(&sample, seed, &mut tally);
+        }
+    }
+    tally.print();
+    enough(&tally, rounds);
+}
+
+type Maker = fn(&mut Random) -> Sample;
+
+/// The sheets of a round, each with the seed that draws it and its calls.
+fn sheets(round: u64) -> Vec<(u64, Sample)> {
+    let mut makers: Vec<(usize, Maker)> = vec![
+        (SMALL_ACCEPTED, |random| shaped(random, samples::accepted)),
+        (UNREPAIRED, |random| shaped(random, samples::unrepaired)),
+        (BATTERED, |random| shaped(random, samples::battered)),
+        (SEVERAL_FAULTS, |random| shaped(random, samples::several_faults)),
+        (RANDOM_BYTES, samples::random_bytes),
+        (LOOSE, samples::loose_records),
+        (MEDIUM, medium),
+        (FULL, |random| samples::accepted(random, MOST_YARDS, MOST_FARMS)),
+    ];
+    makers.extend([(TIGHT, tight as Maker), (BROKEN, broken)]);
+    makers.extend([fault::<1>, fault::<2>, fault::<3>, fault::<4>, fault::<5>].map(|make| (FAULTY, make as _)));
+    let made = makers.into_iter().flat_map(|(count, make)| std::iter::repeat_n(make, count));
+    let drawn = made.enumerate().map(|(number, make)| {
+        let seed = round << 32 | number as u64;
+        (seed, make(&mut Random::new(seed)))
+    });
+    drawn.chain(samples::named().into_iter().map(|sample| (round << 32, sample))).collect()
+}
+
+/// Gives the maker a small shape, one yard or one farm often among them.
+fn shaped(random: &mut Random, make: fn(&mut Random, usize, usize) -> Sample) -> Sample {
+    let (yards, farms) = (random.between(1, 7) as usize, random.between(1, 9) as usize);
+    make(random, yards, farms)
+}
+
+fn medium(random: &mut Random) -> Sample {
+    let (yards, farms) = (random.between(8, MOST_YARDS as u64) as usize, random.between(1, 24) as usize);
+    let make = if random.one_in(4) { samples::battered } else { samples::accepted };
+    make(random, yards, farms)
+}
+
+fn tight(random: &mut Random) -> Sample {
+    let (yards, farms) = two_or_more(random);
+    let a_below_b = random.one_in(2);
+    samples::kept_to_the_cent(random, yards, farms, a_below_b)
+}
+
+fn broken(random: &mut Random) -> Sample {
+    let (yards, farms) = two_or_more(random);
+    let a_below_b = random.one_in(2);
+    samples::broken_by_one_cent(random, yards, farms, a_below_b)
+}
+
+fn two_or_more(random: &mut Random) -> (usize, usize) {
+    (random.between(2, 7) as usize, random.between(2, 9) as usize)
+}
+
+/// A fault of one question, now and then in a sheet near the greatest size.
+fn fault<const QUESTION: u8>(random: &mut Random) -> Sample {
+    if random.one_in(16) {
+        let (yards, farms) = (MOST_YARDS - random.between(0, 2) as usize, MOST_FARMS - random.between(0, 2) as usize);
+        return samples::faulty(random, QUESTION, yards, farms);
+    }
+    shaped(random, |random, yards, farms| samples::faulty(random, QUESTION, yards, farms))
+}
+
+/// Every answer occurred often enough, and the farms' stretches too.
+fn enough(tally: &Tally, rounds: u64) {
+    assert!(tally.calls() >= rounds * LEAST_CALLS, "{} calls", tally.calls());
+    for (name, answers) in ANSWERS {
+        let least = if matches!(name, Name::Read) { LEAST_OF_READING } else { LEAST_OF_PLANS };
+        for &answer in answers {
+            let count = tally.count(name, answer);
+            assert!(count >= rounds * least, "{name:?} gave answer {answer} {count} times only");
+        }
+    }
+    assert!(tally.whole_stretches >= rounds * LEAST_STRETCHES, "{} whole stretches", tally.whole_stretches);
+    assert!(tally.empty_stretches >= rounds * LEAST_STRETCHES, "{} empty stretches", tally.empty_stretches);
+}

@@ -1,0 +1,150 @@
+//! Demand 3 on small sheets, against every rival: our list is the yards in the plan's records of kind 4F, and both buyers are
+//! priced by the sheet's own prices, never by the printed total. Also that no move is left that lowers the cost of our list.
+#[path = "../kept/mod.rs"]
+mod kept;
+mod prices;
+mod worst;
+
+use planner::format::{OPEN, RECORD};
+use planner::random::Random;
+use planner::samples::{accepted, repair, small_amounts, Sample};
+use planner::table::Table;
+use planner::{library, Answer, Written};
+use prices::{adds_and_drops, swaps, Prices};
+use worst::{Seen, Worst};
+
+/// Sheets of every kind.
+const SHEETS: u64 = 1_500;
+const UP_TO_YARDS: u64 = 10;
+const UP_TO_FARMS: u64 = 12;
+/// Kept sheets with more yards are left out; at least so many remain.
+const MOST_YARDS_KEPT: usize = 12;
+const LEAST_KEPT: u64 = 5;
+/// Sheets that are changed step by step towards a worse ratio, and the steps.
+const CLIMBS: u64 = 10;
+const STEPS: u64 = 10_000;
+/// The amounts that a step draws from.
+const HIGHEST_AMOUNT: u64 = 12;
+
+#[test]
+fn no_rival_is_far_below_our_lists() {
+    let mut seen = Seen::default();
+    for seed in 0..SHEETS {
+        let mut random = Random::new(seed);
+        let (yards, farms) = (random.between(1, UP_TO_YARDS) as usize, random.between(1, UP_TO_FARMS) as usize);
+        let Sample { name, sheet, .. } = accepted(&mut random, yards, farms);
+        seen.take_in(compared(&sheet, yards, &format!("seed {seed}, {name}")));
+    }
+    seen.print();
+}
+
+/// The same where a search without drops would stop too early.
+#[test]
+fn nor_on_sheets_kept_for_their_drops() {
+    let mut seen = Seen::default();
+    for Sample { name, sheet, .. } in kept::kept_sheets() {
+        let yards = library::read(&sheet).expect("an accepted sheet").yards;
+        if yards <= MOST_YARDS_KEPT {
+            seen.take_in(compared(&sheet, yards, &name));
+        }
+    }
+    assert!(seen.sheets >= LEAST_KEPT, "{} kept sheets are small enough", seen.sheets);
+    seen.print();
+}
+
+/// The same on sheets changed towards a high open total or high limited hauls, since random sheets stay far below the bounds.
+#[test]
+fn nor_on_sheets_that_are_made_worse() {
+    let mut seen = Seen::default();
+    for seed in 0..CLIMBS {
+        climb(seed, &mut seen, |seen| &seen.open_total);
+        climb(seed, &mut seen, |seen| &seen.limited_hauls);
+    }
+    seen.print();
+}
+
+/// Changes one amount at a time and keeps the change where the ratio is not lower. Every sheet on the way is compared.
+fn climb(seed: u64, seen: &mut Seen, ratio: fn(&Seen) -> &Worst) {
+    let mut random = Random::new(seed);
+    let (yards, farms) = (random.between(4, 7) as usize, random.between(3, 8) as usize);
+    let mut table = small_amounts(&mut random, yards, farms, 6);
+    repair(&mut table);
+    let mut present = compared(&table.sheet(), yards, &format!("seed {seed}, {table:?}"));
+    for _ in 0..STEPS {
+        let changed = changed(&mut random, &table);
+        if library::read(&changed.sheet()).is_err() {
+            continue;
+        }
+        let next = compared(&changed.sheet(), yards, &format!("seed {seed}, {changed:?}"));
+        if !ratio(&present).is_above(ratio(&next)) {
+            (table, present) = (changed, next.clone());
+        }
+        seen.take_in(next);
+    }
+}
+
+fn changed(random: &mut Random, table: &Table) -> Table {
+    let mut table = table.clone();
+    let yard = random.between(0, table.fees.len() as u64 - 1) as usize;
+    let farm = random.between(0, table.hauls.len() as u64 - 1) as usize;
+    let amount = random.between(0, HIGHEST_AMOUNT) as u32;
+    if random.one_in(4) {
+        table.fees[yard] = amount;
+    } else {
+        table.hauls[farm][yard] = amount;
+    }
+    table
+}
+
+/// Both lists, for every k, against every rival.
+fn compared(sheet: &[u8], yards: usize, name: &str) -> Seen {
+    let prices = Prices::of(sheet, yards);
+    let mut seen = Seen { sheets: 1, ..Seen::default() };
+    open_list(&prices, list(sheet, |area| library::open_plan(sheet, area)), name, &mut seen);
+    for k in 1..=yards {
+        limited_list(&prices, k, list(sheet, |area| library::limited_plan(sheet, k, area)), name, &mut seen);
+    }
+    seen.name(name);
+    seen
+}
+
+/// The set of yards in the records of kind 4F among the bytes written. The area is as long as the sheet and two records more,
+/// which is enough for every plan.
+fn list(sheet: &[u8], call: impl Fn(&mut [u8]) -> Answer<Written>) -> usize {
+    let mut area = vec![0; sheet.len() + 2 * RECORD];
+    let written = call(&mut area).expect("an accepted sheet");
+    let opened = area[..written.bytes].chunks(RECORD).filter(|record| record[0] == OPEN);
+    opened.fold(0, |set, record| set | 1 << record[1])
+}
+
+fn open_list(prices: &Prices, ours: usize, name: &str, seen: &mut Seen) {
+    let (fees, hauls, total) = (prices.fees[ours], prices.hauls[ours], prices.total(ours));
+    for rival in prices.rivals() {
+        let rival_total = prices.total(rival);
+        let allowed_fees = prices.fees[rival] + 2 * prices.hauls[rival];
+        assert!(hauls <= rival_total, "{name}: hauls {hauls} of {ours:b}, rival {rival:b} allows {rival_total}");
+        assert!(fees <= allowed_fees, "{name}: fees {fees} of {ours:b}, rival {rival:b} allows {allowed_fees}");
+        assert!(total <= 3 * rival_total, "{name}: total {total} of {ours:b}, rival {rival:b} pays {rival_total}");
+        seen.open_hauls.see(hauls, rival_total);
+        seen.open_fees.see(fees, allowed_fees);
+        seen.open_total.see(total, rival_total);
+        seen.rivals_of_open += 1;
+    }
+    for other in adds_and_drops(prices.yards, ours).into_iter().chain(swaps(prices.yards, ours)) {
+        assert!(prices.total(other) >= total, "{name}: open list {ours:b} has the cheaper neighbour {other:b}");
+    }
+}
+
+fn limited_list(prices: &Prices, k: usize, ours: usize, name: &str, seen: &mut Seen) {
+    let hauls = prices.hauls[ours];
+    assert!(ours.count_ones() as usize == k, "{name}: limited list for {k} is {ours:b}");
+    for rival in prices.rivals().filter(|rival| rival.count_ones() as usize <= k) {
+        let rival_hauls = prices.hauls[rival];
+        assert!(hauls <= 5 * rival_hauls, "{name}: hauls {hauls} of {ours:b}, rival {rival:b} pays {rival_hauls}");
+        seen.limited_hauls.see(hauls, rival_hauls);
+        seen.rivals_of_limited += 1;
+    }
+    for other in swaps(prices.yards, ours) {
+        assert!(prices.hauls[other] >= hauls, "{name}: limited list {ours:b} has the cheaper neighbour {other:b}");
+    }
+}
