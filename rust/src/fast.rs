@@ -1,16 +1,16 @@
 //! The calls of document 01 as fast as plain Rust makes them. The planner's times are held against these.
 //!
 //! A sheet is read once into a table of fixed size. Question 6 takes two yards at a time, and a search keeps the costs of
-//! all moves and counts again only the farms that a move touches. Nothing is allocated, and the loops over yards are laid
-//! out for the vector instructions that every x86-64 processor has.
+//! all moves and counts again only the farms that a move touches. Nothing is allocated, all numbers are whole, and the
+//! loops over yards or farms are laid out for the vector instructions that every x86-64 processor has.
 mod area;
-mod float;
 mod near;
 mod prices;
 mod rule;
 mod search;
 mod sheet;
 
+use crate::format::least_area;
 use crate::{Answer, Counts, Written};
 pub use search::{limited_plan_of, open_plan_of};
 pub use sheet::Hauls;
@@ -61,7 +61,7 @@ pub fn price_of(hauls: &Hauls, set: u32, area: &mut [u8]) -> Written {
 
 /// Question 9.
 fn large_enough(area: &[u8], hauls: &Hauls) -> Answer<()> {
-    if area.len() < sheet::RECORD * (hauls.yards + hauls.farms + 2) {
+    if area.len() < least_area(hauls.yards, hauls.farms) {
         return Err(9);
     }
     Ok(())

@@ -1,6 +1,6 @@
 //! The yards of a set, and which of them are nearest to a farm.
-use super::float;
-use super::sheet::{Row, HIGHEST_HAUL, MOST_YARDS};
+use super::sheet::Amounts;
+use crate::format::{HIGHEST_HAUL, MOST_YARDS};
 
 /// The yards of a set, by number.
 pub struct Yards {
@@ -39,8 +39,8 @@ impl HaulTo {
     /// No other is above this.
     const HIGHEST: HaulTo = HaulTo(HIGHEST_HAUL << HaulTo::YARD_BITS | (MOST_YARDS as u32 - 1));
 
-    fn new(row: &Row, yard: usize) -> HaulTo {
-        HaulTo(float::haul(row[yard]) << HaulTo::YARD_BITS | yard as u32)
+    fn new(row: &Amounts, yard: usize) -> HaulTo {
+        HaulTo(row[yard] << HaulTo::YARD_BITS | yard as u32)
     }
 
     pub fn haul(self) -> u32 {
@@ -53,7 +53,7 @@ impl HaulTo {
 }
 
 /// The smallest haul to one of the yards, the lowest number among equals.
-pub fn nearest(row: &Row, yards: &Yards) -> HaulTo {
+pub fn nearest(row: &Amounts, yards: &Yards) -> HaulTo {
     yards.iter().fold(HaulTo::HIGHEST, |least, yard| least.min(HaulTo::new(row, yard)))
 }
 
@@ -68,12 +68,12 @@ impl Near {
     /// To no yard.
     pub const NONE: Near = Near { first: HaulTo::HIGHEST, second: HaulTo::HIGHEST };
 
-    pub fn of(row: &Row, yards: &Yards) -> Near {
+    pub fn of(row: &Amounts, yards: &Yards) -> Near {
         yards.iter().fold(Near::NONE, |near, yard| near.with(row, yard))
     }
 
     /// With one more yard in the set.
-    pub fn with(self, row: &Row, yard: usize) -> Near {
+    pub fn with(self, row: &Amounts, yard: usize) -> Near {
         let haul = HaulTo::new(row, yard);
         Near { first: self.first.min(haul), second: self.second.min(self.first.max(haul)) }
     }

@@ -1,10 +1,8 @@
 //! The costs of all moves from a set, and the move that is taken.
-use super::float::{self, lesser};
 use super::near::{Near, Yards};
-use super::sheet::{Hauls, Row, MOST_YARDS};
-
-/// An amount for each yard.
-type Amounts = [u32; MOST_YARDS];
+use super::sheet::{Amounts, Hauls};
+use crate::format::MOST_YARDS;
+use std::ops::{Add, Sub};
 
 /// The haul costs of all moves from a set, as sums over its farms.
 pub struct Prices {
@@ -17,34 +15,43 @@ pub struct Prices {
 }
 
 impl Prices {
-    /// The sums before any farm is counted. Each farm's float brings the bits of the base into `added`.
-    pub fn none(farms: usize) -> Prices {
-        let start = float::BASE_BITS.wrapping_mul(farms as u32).wrapping_neg();
-        Prices { added: [start; MOST_YARDS], more: [[0; MOST_YARDS]; MOST_YARDS], loss: [0; MOST_YARDS] }
+    /// The sums before any farm is counted in: until then it pays its haul to the yard that is added.
+    pub fn none(hauls: &Hauls) -> Prices {
+        Prices { added: hauls.alone(), more: [[0; MOST_YARDS]; MOST_YARDS], loss: [0; MOST_YARDS] }
     }
 
     /// Counts a farm in.
-    pub fn put(&mut self, row: &Row, near: Near) {
-        self.count(row, near, u32::wrapping_add);
+    pub fn put(&mut self, row: &Amounts, near: Near) {
+        self.count(row, near, u32::add, u32::sub);
     }
 
-    /// Counts a farm out again.
-    pub fn take(&mut self, row: &Row, near: Near) {
-        self.count(row, near, u32::wrapping_sub);
+    /// Counts a farm again whose nearest yards change. Where the first stays, no cost of adding a yard changes.
+    pub fn change(&mut self, row: &Amounts, before: Near, after: Near) {
+        if before.first != after.first {
+            self.count(row, before, u32::sub, u32::add);
+            self.put(row, after);
+            return;
+        }
+        let out = after.first.yard();
+        let (before, after) = (before.second.haul(), after.second.haul());
+        self.loss[out] = self.loss[out] + after - before;
+        for (more, &haul) in self.more[out].iter_mut().zip(row) {
+            *more = *more + over(haul, before) - over(haul, after);
+        }
     }
 
+    /// Counts a farm in, or out with plus and minus exchanged.
     #[inline(always)]
-    fn count(&mut self, row: &Row, near: Near, sum: impl Fn(u32, u32) -> u32) {
+    fn count(&mut self, row: &Amounts, near: Near, plus: impl Fn(u32, u32) -> u32, minus: impl Fn(u32, u32) -> u32) {
         let (first, second) = (near.first.haul(), near.second.haul());
         let out = near.first.yard();
-        self.loss[out] = sum(self.loss[out], second - first);
-        let (first, second) = (float::held(first), float::held(second));
+        self.loss[out] = plus(self.loss[out], second - first);
         let more = &mut self.more[out];
         for yard in 0..MOST_YARDS {
-            let with_both = lesser(row[yard], first).to_bits();
-            let without_first = lesser(row[yard], second).to_bits();
-            self.added[yard] = sum(self.added[yard], with_both);
-            more[yard] = sum(more[yard], without_first.wrapping_sub(with_both));
+            let over_first = over(row[yard], first);
+            let over_second = over(row[yard], second);
+            self.added[yard] = minus(self.added[yard], over_first);
+            more[yard] = plus(more[yard], over_first - over_second);
         }
     }
 
@@ -88,6 +95,12 @@ impl Prices {
             choice.offer_row(&swaps, fees[out], |into| set & !(1 << out) | 1 << into);
         }
     }
+}
+
+/// What a haul is above another one, or 0. Every x86-64 processor compares signed numbers by vector, unsigned ones not:
+/// `saturating_sub` would take more instructions.
+fn over(haul: u32, other: u32) -> u32 {
+    (haul as i32 - other as i32).max(0) as u32
 }
 
 /// The least cost so far, and the first set in order that has it where it is below the present cost.

@@ -1,9 +1,9 @@
 //! The searches for both plans.
 use super::area;
-use super::float;
 use super::near::{Near, Yards};
 use super::prices::Prices;
-use super::sheet::{Hauls, MOST_FARMS, MOST_YARDS};
+use super::sheet::{Amounts, Hauls};
+use crate::format::{MOST_FARMS, MOST_YARDS};
 use crate::Written;
 
 /// The open plan of an accepted sheet, in an area that question 9 accepts.
@@ -26,14 +26,8 @@ pub fn limited_plan_of(hauls: &Hauls, k: usize, area: &mut [u8]) -> Written {
 
 /// The single yard of least full cost, the lowest number among equals.
 fn cheapest_yard(hauls: &Hauls) -> usize {
-    let mut costs = hauls.fees;
-    for row in hauls.rows() {
-        for (cost, &held) in costs.iter_mut().zip(row) {
-            *cost += float::haul(held);
-        }
-    }
-    let least = costs[..hauls.yards].iter().min();
-    costs.iter().position(|cost| Some(cost) == least).unwrap_or(0)
+    let alone = hauls.alone();
+    (0..hauls.yards).min_by_key(|&yard| hauls.fees[yard] + alone[yard]).unwrap_or(0)
 }
 
 /// A set on the way, with each farm's nearest yards and the costs of all moves.
@@ -50,7 +44,7 @@ impl<'a> Search<'a> {
     fn new(hauls: &'a Hauls, set: u32) -> Search<'a> {
         let yards = Yards::of(set);
         let mut near = [Near::NONE; MOST_FARMS];
-        let mut prices = Prices::none(hauls.farms);
+        let mut prices = Prices::none(hauls);
         for (row, near) in hauls.rows().iter().zip(&mut near) {
             *near = Near::of(row, &yards);
             prices.put(row, *near);
@@ -74,15 +68,14 @@ impl<'a> Search<'a> {
                 now = Near::of(row, &self.yards);
             }
             if now != *near {
-                self.prices.take(row, *near);
-                self.prices.put(row, now);
+                self.prices.change(row, *near, now);
                 *near = now;
             }
         }
     }
 
     /// Writes the plan. Its total counts these fees.
-    fn write(&self, fees: &[u32; MOST_YARDS], area: &mut [u8]) -> Written {
+    fn write(&self, fees: &Amounts, area: &mut [u8]) -> Written {
         let served = self.near.iter().map(|near| near.first);
         area::write(self.hauls, &self.yards, served, fees, self.moves, area)
     }

@@ -1,46 +1,47 @@
 //! Questions 1 to 5, and a sheet as a table.
-use super::{float, rule};
+use super::rule;
+use crate::format::{
+    HAUL, HIGHEST_FEE, HIGHEST_HAUL, LONGEST_SHEET, MOST_FARMS, MOST_YARDS, RECORD, SHORTEST_SHEET, YARD,
+};
 use crate::Answer;
 
-/// The bytes of a record.
-pub const RECORD: usize = 8;
-pub const MOST_YARDS: usize = 32;
-pub const MOST_FARMS: usize = 128;
-pub const HIGHEST_FEE: u32 = 50_000_000;
-pub const HIGHEST_HAUL: u32 = 1_000_000;
-
-/// The kinds of a sheet's records.
-const YARD: u8 = 0x59;
-const HAUL: u8 = 0x48;
-const SHORTEST: usize = 16;
-const LONGEST: usize = 33_024;
-
 type Record = [u8; RECORD];
-/// A farm's haul to each yard, as `float::held` gives it.
-pub type Row = [f32; MOST_YARDS];
+/// An amount for each yard.
+pub type Amounts = [u32; MOST_YARDS];
 
 /// The fees and hauls of a sheet. A place past the last yard has the highest fee and the highest hauls, so that no move to
 /// it lowers a cost.
 pub struct Hauls {
     pub yards: usize,
     pub farms: usize,
-    pub fees: [u32; MOST_YARDS],
-    rows: [Row; MOST_FARMS],
+    pub fees: Amounts,
+    rows: [Amounts; MOST_FARMS],
 }
 
 impl Hauls {
     pub fn none() -> Hauls {
-        Hauls { yards: 0, farms: 0, fees: [HIGHEST_FEE; MOST_YARDS], rows: [[0.0; MOST_YARDS]; MOST_FARMS] }
+        Hauls { yards: 0, farms: 0, fees: [HIGHEST_FEE; MOST_YARDS], rows: [[0; MOST_YARDS]; MOST_FARMS] }
     }
 
-    /// The row of each farm.
-    pub fn rows(&self) -> &[Row] {
+    /// The hauls of each farm.
+    pub fn rows(&self) -> &[Amounts] {
         &self.rows[..self.farms]
+    }
+
+    /// The haul cost of each yard by itself.
+    pub fn alone(&self) -> Amounts {
+        let mut costs = [0; MOST_YARDS];
+        for row in self.rows() {
+            for (cost, haul) in costs.iter_mut().zip(row) {
+                *cost += haul;
+            }
+        }
+        costs
     }
 
     /// Asks questions 1 to 6, and fills a table that has nothing yet.
     pub fn read(&mut self, sheet: &[u8]) -> Answer<()> {
-        if !sheet.len().is_multiple_of(RECORD) || !(SHORTEST..=LONGEST).contains(&sheet.len()) {
+        if !sheet.len().is_multiple_of(RECORD) || !(SHORTEST_SHEET..=LONGEST_SHEET).contains(&sheet.len()) {
             return Err(1);
         }
         let records = sheet.as_chunks().0;
@@ -75,12 +76,12 @@ impl Hauls {
 }
 
 /// Writes a farm's hauls to its row; gives 0 where its records are right. Of a full row the compiler knows the length.
-fn fill_row(row: &mut Row, records: &[Record], farm: u8) -> u32 {
+fn fill_row(row: &mut Amounts, records: &[Record], farm: u8) -> u32 {
     if let Some(full) = records.as_array::<MOST_YARDS>() {
-        return amounts(full, HAUL, farm, HIGHEST_HAUL, |yard, haul| row[yard] = float::held(haul));
+        return amounts(full, HAUL, farm, HIGHEST_HAUL, |yard, haul| row[yard] = haul);
     }
-    *row = [float::held(HIGHEST_HAUL); MOST_YARDS];
-    amounts(records, HAUL, farm, HIGHEST_HAUL, |yard, haul| row[yard] = float::held(haul))
+    *row = [HIGHEST_HAUL; MOST_YARDS];
+    amounts(records, HAUL, farm, HIGHEST_HAUL, |yard, haul| row[yard] = haul)
 }
 
 /// Hands on the amount of each record. Gives 0 where every record has this kind, the yard number of its place, this farm

@@ -1,0 +1,79 @@
+//! The calls that are timed, put to each implementation.
+use crate::inputs::Input;
+use planner::calls::{Calls, PlanCall, ALL, FAST};
+use planner::format::MOST_AREA;
+use planner::{fast, Answer, Counts, Written};
+
+/// Every second yard.
+const SIXTEEN_YARDS: u32 = 0x5555_5555;
+pub const SEARCHES: [Call; 3] = [
+    Call::Plan(PlanCall::OpenPlan),
+    Call::Plan(PlanCall::LimitedPlan { k: 8 }),
+    Call::Plan(PlanCall::LimitedPlan { k: 16 }),
+];
+pub const CALLS: [Call; 5] =
+    [Call::Read, Call::Plan(PlanCall::Price { set: SIXTEEN_YARDS }), SEARCHES[0], SEARCHES[1], SEARCHES[2]];
+
+#[derive(Clone, Copy)]
+pub enum Call {
+    Read,
+    Plan(PlanCall),
+}
+
+#[derive(Debug, PartialEq, Eq)]
+pub enum Outcome {
+    Counts(Answer<Counts>),
+    Written(Answer<Written>),
+}
+
+impl Call {
+    pub fn name(self) -> String {
+        match self {
+            Call::Read => "read".to_string(),
+            Call::Plan(PlanCall::Price { set }) => format!("price, {} yards", set.count_ones()),
+            Call::Plan(PlanCall::OpenPlan) => "open plan".to_string(),
+            Call::Plan(PlanCall::LimitedPlan { k }) => format!("limited plan, k = {k}"),
+        }
+    }
+
+    pub fn made(self, calls: &Calls, sheet: &[u8], area: &mut [u8]) -> Outcome {
+        match self {
+            Call::Read => Outcome::Counts((calls.read)(sheet)),
+            Call::Plan(call) => Outcome::Written(call.made(calls, sheet, area)),
+        }
+    }
+}
+
+/// What fast does for a call on a table already read.
+pub fn after_reading(call: PlanCall, hauls: &fast::Hauls, area: &mut [u8]) -> Written {
+    match call {
+        PlanCall::Price { set } => fast::price_of(hauls, set, area),
+        PlanCall::OpenPlan => fast::open_plan_of(hauls, area),
+        PlanCall::LimitedPlan { k } => fast::limited_plan_of(hauls, k, area),
+    }
+}
+
+/// The three implementations must accept the sheet, and give the same outcome and area.
+pub fn compare(call: Call, input: &Input) -> Result<(), String> {
+    let [ours, literal, fast] = ALL.each_ref().map(|calls| {
+        let mut area = [0xA5; MOST_AREA];
+        (call.made(calls, &input.sheet, &mut area), area)
+    });
+    if let Outcome::Counts(Err(number)) | Outcome::Written(Err(number)) = literal.0 {
+        return Err(format!("{} of {} is refused: {number}", call.name(), input.name));
+    }
+    for (name, other) in [("ours", ours), ("fast", fast)] {
+        if other != literal {
+            return Err(format!("{} of {}: {name} and literal differ", call.name(), input.name));
+        }
+    }
+    Ok(())
+}
+
+/// What all three write for a call that was compared.
+pub fn plan(call: Call, input: &Input) -> Written {
+    match call.made(&FAST, &input.sheet, &mut [0; MOST_AREA]) {
+        Outcome::Written(Ok(written)) => written,
+        refused => unreachable!("{refused:?}"),
+    }
+}

@@ -1,0 +1,34 @@
+//! How long each call takes: the proved library (ours), document 01 to the letter (literal), and plain Rust made for speed
+//! (fast). Before anything is timed, the three must give the same answers and the same areas.
+mod calls;
+mod inputs;
+mod printing;
+mod timing;
+
+use calls::{compare, CALLS, SEARCHES};
+use std::process::ExitCode;
+
+fn main() -> ExitCode {
+    match bench() {
+        Ok(()) => ExitCode::SUCCESS,
+        Err(fault) => {
+            eprintln!("{fault}");
+            ExitCode::FAILURE
+        }
+    }
+}
+
+fn bench() -> Result<(), String> {
+    let inputs = inputs::full_sheets();
+    let drops = inputs::kept_drops()?;
+    for input in &inputs {
+        CALLS.iter().try_for_each(|&call| compare(call, input))?;
+    }
+    drops.iter().try_for_each(|input| compare(SEARCHES[0], input))?;
+    printing::print_inputs(&inputs);
+    let sheets: Vec<_> = inputs.iter().map(|input| timing::time(CALLS, input)).collect();
+    printing::print_calls(&sheets);
+    printing::print_without_reading(&sheets);
+    printing::print_drops(&drops);
+    Ok(())
+}
