@@ -53,14 +53,14 @@ pub fn print_drops(drops: &[Input]) {
 }
 
 fn print_heading() {
-    println!("{:<22} {:>10} {:>11} {:>10}   {:<30} {:<26}", "", "ours", "literal", "fast", "ours/literal", "ours/fast");
+    println!("{:<40} {:>10} {:>11} {:>10}   {:<30} {:<26}", "", "ours", "literal", "fast", "ours/literal", "ours/fast");
 }
 
 fn print_line(name: &str, times: &[Three]) {
     let [ours, literal, fast] = [0, 1, 2].map(|planner| shown(median(times.iter().map(|times| times[planner]))));
     let by_literal = ratios(times, 1, 4);
     let by_fast = ratios(times, 2, 2);
-    println!("{name:<22} {ours:>10} {literal:>11} {fast:>10}   {by_literal:<30} {by_fast:<26}");
+    println!("{name:<40} {ours:>10} {literal:>11} {fast:>10}   {by_literal:<30} {by_fast:<26}");
 }
 
 /// Ours by another planner: the median over the sheets, the lowest and the highest.
