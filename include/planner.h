@@ -2,23 +2,39 @@
  * The yard planner for C: reads haul sheets, prices sets of yards, makes open and limited plans (document 01).
  *
  * Link target/staticlib/libexports.a, which `rt staticlib exports` proves and writes (x86-64; it needs memset and nothing else).
+ * What each call promises is its contract in crates/exports/src/lib.rt: its answer and the area after it for every input, and for
+ * the plans that no move lowers the cost and that no rival is far cheaper (an open plan costs at most three times a rival's set, the
+ * hauls of a limited plan are at most five times those of a rival with as many yards or fewer).
  *
  * Every call ends, whatever the bytes of the sheet, the set, k and the lengths are, and either gives its whole result or refuses by
- * the number of the first question of document 01 that is answered no. The caller sees to three things that no proof can: a pointer
- * is not NULL (also where its length is 0), the bytes that it promises by the length are there, and an area is writable and overlaps
- * no sheet. A sheet is only read. No call keeps a pointer, allocates memory, or has a state of its own: calls from several threads
- * are free, each with its own area.
+ * the number of the first question of document 01 that is answered no. The caller sees to three things that no proof can: no
+ * pointer is NULL (also where its length is 0), as many bytes as the length says can be read, and in an area written, and an area
+ * overlaps no sheet. A sheet is only read. No call keeps a pointer, allocates memory, or has a state of its own: calls from several
+ * threads are free, each with its own area.
+ *
+ * A record has eight bytes: byte 0 the kind, byte 1 a yard number, byte 2 a farm number, byte 3 zero, bytes 4 to 7 an amount in
+ * cents, lowest byte first. Numbers count from 0; bytes not named are zero.
+ *
+ *   kind   in a sheet of m yards and n farms, in this order
+ *   59     for each yard: byte 1 the yard, the amount its fee
+ *   48     for each farm, for each yard: byte 1 the yard, byte 2 the farm, the amount the haul of one load
+ *
+ *   kind   in a plan, in this order
+ *   4F     for each open yard: byte 1 the yard, the amount its fee
+ *   41     for each farm: byte 1 its yard, byte 2 the farm, the amount its haul
+ *   54     once: byte 1 the count of open yards, byte 2 n, the amount the total (fees and hauls; in a limited plan hauls alone)
+ *   4D     once: the amount the moves made, 0 for pricing
  *
  * Results of 64 bits. Bits 0 to 7: the refusal number, 0 where the call is accepted. A refused call gives its number alone, all
  * higher bits 0, and leaves the area as it was.
  *
- *   number   question that is answered no
+ *   number   what the sheet, or what is given beside it, has to be
  *      1     the length is a multiple of 8, from 16 to 33,024 bytes
  *      2     every kind is 59 or 48 hex, every byte 3 zero, byte 2 zero in every yard record
  *      3     1 to 32 yard records stand first, numbered from 0 in order, with none after them
  *      4     the haul records are m times n with n from 1 to 128, each with the yard and farm number of its place
  *      5     every fee is at most 50,000,000 and every haul at most 1,000,000
- *      6     the four-point rule: haul(a, q) is at most haul(a, p) + haul(b, p) + haul(b, q)
+ *      6     the four-point rule: haul(a, q) is at most haul(a, p) + haul(b, p) + haul(b, q), for all yards a, b and farms p, q
  *      7     limited plan: k is from 1 to m
  *      8     pricing: the set marks at least one yard and none numbered m or above
  *      9     pricing and plans: the area has at least 8 * (m + n + 2) bytes
@@ -33,8 +49,8 @@
 extern "C" {
 #endif
 
-/* An area of so many bytes holds the plan of every sheet: 32 yards, 128 farms and two records more, of 8 bytes each. */
-#define PLANNER_MOST_AREA 1296
+/* An area of so many bytes holds the plan of every sheet. */
+#define PLANNER_MOST_AREA (8 * (32 + 128 + 2))
 
 /* Asks questions 1 to 6. Bits 8 to 15: the yards m; bits 16 to 23: the farms n. */
 uint64_t planner_read(const uint8_t *sheet, size_t sheet_len);
@@ -47,9 +63,8 @@ size_t planner_farm_len(const uint8_t *sheet, size_t sheet_len, size_t farm);
 uint8_t planner_farm_byte(const uint8_t *sheet, size_t sheet_len, size_t farm, size_t at);
 
 /*
- * Each writes a plan to the front of the area: a record of kind 4F hex for each open yard, of kind 41 for each farm, of kind 54 for
- * the total and of kind 4D for the moves. Bits 8 to 31: the bytes written; bits 32 to 63: the moves made. What stands in the area
- * behind those bytes stays.
+ * Each writes a plan to the front of the area. Bits 8 to 31: the bytes written; bits 32 to 63: the moves made. What stands in the
+ * area behind those bytes stays.
  */
 
 /* The plan of the set of yards whose bit i marks yard i. Asks questions 1 to 6, 8 and 9. */

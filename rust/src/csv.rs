@@ -54,6 +54,9 @@ pub fn read(file: &[u8]) -> Result<Typed, Fault> {
         if line.cells[0].is_empty() {
             return fault(line.number, 1, "the name of the farm is missing");
         }
+        if farms.contains(&line.cells[0]) {
+            return fault(line.number, 1, format!("another farm is called {} too", line.cells[0]));
+        }
         table.hauls.push(amounts(&line, &yards)?);
         farms.push(line.cells[0].clone());
     }
@@ -80,10 +83,15 @@ fn yards(line: Option<Line>) -> Result<Vec<String>, Fault> {
     if yards.len() > MOST_YARDS {
         return fault(1, MOST_YARDS + 2, format!("a sheet has at most {MOST_YARDS} yards (question 3)"));
     }
-    match yards.iter().position(String::is_empty) {
-        Some(yard) => fault(1, yard + 2, "the name of the yard is missing"),
-        None => Ok(yards),
+    for (yard, name) in yards.iter().enumerate() {
+        if name.is_empty() {
+            return fault(1, yard + 2, "the name of the yard is missing");
+        }
+        if yards[..yard].contains(name) {
+            return fault(1, yard + 2, format!("another yard is called {name} too"));
+        }
     }
+    Ok(yards)
 }
 
 /// The amounts of a line, one for each yard.

@@ -1,4 +1,5 @@
-//! The records of sheets and plans, and document 01's bounds, for all that is here but `literal`, which has its own.
+//! The records of sheets and plans, and document 01's bounds. `literal` has its own, and so have the tests of document 01's
+//! examples.
 
 /// The bytes of a record.
 pub const RECORD: usize = 8;
@@ -35,7 +36,7 @@ pub fn record(kind: u8, yard: usize, farm: usize, amount: u32) -> [u8; RECORD] {
     [kind, yard as u8, farm as u8, 0, a, b, c, d]
 }
 
-/// The amount of a record.
+/// The amount of a record, which has all its bytes.
 pub fn amount(record: &[u8]) -> u32 {
     u32::from_le_bytes([record[4], record[5], record[6], record[7]])
 }

@@ -1,9 +1,11 @@
-//! The planner's calls, proved in Rattle: a safe face of `include/planner.h`.
+//! The planner's calls, proved in Rattle: a safe wrapper of `include/planner.h`.
 //!
 //! Every call takes any bytes, any set, any count and any area. A refused call gives document 01's number and leaves the area as
 //! it was.
 use crate::{Answer, Counts, Written};
 
+/// Each takes a slice as its pointer and its length. A slice of Rust is what `planner.h` asks of the two, and an area lent as
+/// `&mut` overlaps no sheet: so every call below is sound.
 mod raw {
     extern "C" {
         pub fn planner_read(sheet: *const u8, sheet_len: usize) -> u64;
@@ -28,7 +30,8 @@ pub fn read(sheet: &[u8]) -> Answer<Counts> {
     Ok(Counts { yards: (result >> 8 & 0xFF) as usize, farms: (result >> 16 & 0xFF) as usize })
 }
 
-/// The length of a farm's stretch of the sheet: 8 bytes for each yard, or 0 where the farm or the form of the sheet is refused.
+/// The length of a farm's stretch of the sheet: 8 bytes for each yard; 0 for a farm n or above, and for a sheet that questions 1
+/// to 4 turn down.
 pub fn farm_len(sheet: &[u8], farm: usize) -> usize {
     unsafe { raw::planner_farm_len(sheet.as_ptr(), sheet.len(), farm) }
 }

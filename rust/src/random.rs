@@ -19,7 +19,7 @@ impl Random {
         z ^ (z >> 31)
     }
 
-    /// A number from `low` to `high`, both included.
+    /// A number from `low` to `high`, both included; `high` is not below `low`, and not all 64 bits are between.
     pub fn between(&mut self, low: u64, high: u64) -> u64 {
         low + ((u128::from(self.draw()) * u128::from(high - low + 1)) >> 64) as u64
     }

@@ -10,6 +10,16 @@ pub struct Table {
 }
 
 impl Table {
+    /// Document 01's sheet S.
+    pub fn s() -> Table {
+        Table { fees: vec![1, 4, 2], hauls: vec![vec![1, 3, 9], vec![5, 1, 5], vec![9, 5, 1]] }
+    }
+
+    /// Equal fees and equal hauls.
+    pub fn even(yards: usize, farms: usize, fee: u32, haul: u32) -> Table {
+        Table { fees: vec![fee; yards], hauls: vec![vec![haul; yards]; farms] }
+    }
+
     /// The records of the sheet, yards first, then each farm's hauls.
     pub fn sheet(&self) -> Vec<u8> {
         let mut bytes = Vec::new();

@@ -8,7 +8,7 @@ use std::path::{Path, PathBuf};
 
 const EXAMPLES: [&str; 2] = ["s", "boerde"];
 const EARTH_RADIUS: f64 = 6371.0;
-const WINDING: f64 = 1.3;
+const ROAD_FACTOR: f64 = 1.3;
 const CENTS_FOR_A_KILOMETRE: f64 = 9000.0;
 
 fn file(name: &str) -> PathBuf {
@@ -98,7 +98,7 @@ fn distance(one: &Place, other: &Place) -> f64 {
 
 /// Rounded up, three ways that are together as long as a fourth stay so: the four-point rule holds.
 fn haul(farm: &Place, yard: &Place) -> u32 {
-    (distance(farm, yard) * WINDING * CENTS_FOR_A_KILOMETRE).ceil() as u32
+    (distance(farm, yard) * ROAD_FACTOR * CENTS_FOR_A_KILOMETRE).ceil() as u32
 }
 
 fn fee(yard: &Place) -> u32 {

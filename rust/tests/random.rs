@@ -17,7 +17,7 @@ const BROKEN: usize = 100;
 /// Of each of questions 1 to 5.
 const FAULTY: usize = 80;
 const SEVERAL_FAULTS: usize = 250;
-const BATTERED: usize = 400;
+const DAMAGED: usize = 400;
 const RANDOM_BYTES: usize = 60;
 const LOOSE: usize = 200;
 const MEDIUM: usize = 40;
@@ -58,7 +58,7 @@ fn sheets(round: u64) -> Vec<(u64, Sample)> {
     let mut makers: Vec<(usize, Maker)> = vec![
         (SMALL_ACCEPTED, |random| shaped(random, samples::accepted)),
         (UNREPAIRED, |random| shaped(random, samples::unrepaired)),
-        (BATTERED, |random| shaped(random, samples::battered)),
+        (DAMAGED, |random| shaped(random, samples::damaged)),
         (SEVERAL_FAULTS, |random| shaped(random, samples::several_faults)),
         (RANDOM_BYTES, samples::random_bytes),
         (LOOSE, samples::loose_records),
@@ -83,7 +83,7 @@ fn shaped(random: &mut Random, make: fn(&mut Random, usize, usize) -> Sample) ->
 
 fn medium(random: &mut Random) -> Sample {
     let (yards, farms) = (random.between(8, MOST_YARDS as u64) as usize, random.between(1, 24) as usize);
-    let make = if random.one_in(4) { samples::battered } else { samples::accepted };
+    let make = if random.one_in(4) { samples::damaged } else { samples::accepted };
     make(random, yards, farms)
 }
 

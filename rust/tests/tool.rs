@@ -12,7 +12,7 @@ use std::process::{Command, Output};
 
 /// Document 01's sheet S: records 0 to 2 are yards, farm p's haul to yard y is record 3 + 3 p + y.
 fn s() -> Table {
-    Table { fees: vec![1, 4, 2], hauls: vec![vec![1, 3, 9], vec![5, 1, 5], vec![9, 5, 1]] }
+    Table::s()
 }
 
 /// S with bytes changed: pairs of a place and its new value.
@@ -25,13 +25,13 @@ fn damaged(changes: &[(usize, u8)]) -> Vec<u8> {
 }
 
 /// A table of equal hauls.
-fn level(yards: usize, farms: usize) -> Table {
-    Table { fees: vec![0; yards], hauls: vec![vec![1; yards]; farms] }
+fn even(yards: usize, farms: usize) -> Table {
+    Table::even(yards, farms, 0, 1)
 }
 
 /// Equal hauls but for one: yards 0 and 2 show equally well that it breaks the four-point rule.
 fn one_far() -> Table {
-    let mut table = level(3, 2);
+    let mut table = even(3, 2);
     table.hauls[1][1] = 4;
     table
 }
@@ -46,11 +46,12 @@ fn with_hauls(rows: [[u32; 2]; 2]) -> Vec<u8> {
     Table { fees: vec![0, 0], hauls: rows.map(|row| row.to_vec()).to_vec() }.sheet()
 }
 
-/// S with one record more at the end, and S without its last records.
+/// S with one record more at the end.
 fn longer(kind: u8, yard: usize, farm: usize) -> Vec<u8> {
     [s().sheet(), record(kind, yard, farm, 0).to_vec()].concat()
 }
 
+/// S without its last records.
 fn shorter(records: usize) -> Vec<u8> {
     s().sheet()[..8 * (12 - records)].to_vec()
 }
@@ -91,15 +92,15 @@ fn every_fault_of_a_sheet_is_found_in_its_record() {
         (damaged(&[(17, 1)]), 3, &[2], "Its number is 1. Asked here: 2."),
         (damaged(&[(40, 0x59), (17, 7)]), 3, &[2], "Its number is 7. Asked here: 2."),
         (longer(0x59, 3, 0), 3, &[12], "It stands after the haul in record 3"),
-        (level(33, 1).sheet(), 3, &[32], "one yard more than the 32"),
+        (even(33, 1).sheet(), 3, &[32], "one yard more than the 32"),
         ([record(0x48, 0, 0, 1), record(0x48, 0, 1, 1)].concat(), 3, &[0], "a haul, yard 0, farm 0, amount 1"),
         (damaged(&[(41, 1)]), 4, &[5], "Asked here: yard 2, farm 0."),
         (damaged(&[(58, 9), (74, 9)]), 4, &[7], "Asked here: yard 1, farm 1."),
         (shorter(1), 4, &[], "yards 3, hauls 8, which is farms 2, hauls left over 2"),
         (shorter(9), 4, &[], "yards 3, hauls 0, which is farms 0"),
         (longer(0x48, 1, 3), 4, &[12], "hauls 10, which is farms 3, hauls left over 1"),
-        (level(1, 129).sheet(), 4, &[], "which is farms 129, hauls left over 0"),
-        (level(1, 300).sheet(), 4, &[257], "Asked here: yard 0, farm 256."),
+        (even(1, 129).sheet(), 4, &[], "which is farms 129, hauls left over 0"),
+        (even(1, 300).sheet(), 4, &[257], "Asked here: yard 0, farm 256."),
         (with_fee(50_000_001), 5, &[1], "Its fee is 50000001. Asked: at most 50000000."),
         (with_hauls([[0, 0], [1_000_001, 0]]), 5, &[4], "Its haul is 1000001. Asked: at most 1000000."),
         (damaged(&[(95, 1), (39, 1)]), 5, &[4], "Its haul is 16777219"),
@@ -210,13 +211,15 @@ fn assert_table_fault(file: &[u8], line: usize, column: usize, part: &str) {
 #[test]
 fn every_fault_of_a_table_is_told_with_line_and_column() {
     let head = "cents,A,B\nfee,1,2\n";
-    let wide = format!("cents{}\n", ",Y".repeat(33));
-    let long = format!("cents,A\nfee,1\n{}", "F,1\n".repeat(129));
+    let wide = format!("cents{}\n", (0..33).map(|yard| format!(",Y{yard}")).collect::<String>());
+    let long = format!("cents,A\nfee,1\n{}", (0..129).map(|farm| format!("F{farm},1\n")).collect::<String>());
     let cases = [
         (String::new(), 1, 1, "the line is empty"),
         ("euros,A\nfee,1\nF,1\n".into(), 1, 1, "the word cents"),
         ("cents\nfee\nF\n".into(), 1, 2, "there is no yard"),
         ("cents,A,,C\nfee,1,2,3\nF,1,2,3\n".into(), 1, 3, "the name of the yard is missing"),
+        ("cents,A,B,A\nfee,1,2,3\nF,1,2,3\n".into(), 1, 4, "another yard is called A too"),
+        (format!("{head}F,1,2\nG,1,2\nF,1,2\n"), 5, 1, "another farm is called F too"),
         (wide, 1, 34, "at most 32 yards (question 3)"),
         ("cents,A\n".into(), 2, 1, "the line of fees is missing"),
         ("cents,A\nF,1\n".into(), 2, 1, "the word fee"),

@@ -2,6 +2,7 @@
 #include "planner.h"
 
 #include <stdio.h>
+#include <string.h>
 
 static const uint8_t sheet[96] = {
     0x59, 0, 0, 0, 1, 0, 0, 0, /* yard 0, fee 1 */
@@ -26,10 +27,29 @@ static void show(const char *call, uint64_t result)
     printf("\n");
 }
 
+/* Counts are read off a result only where the sheet is accepted. */
+static void show_counts(const char *call, uint64_t result)
+{
+    if (planner_refusal(result) != 0)
+        printf("%s: refused %u\n", call, planner_refusal(result));
+    else
+        printf("%s: yards %zu, farms %zu\n", call, planner_yards(result), planner_farms(result));
+}
+
+/* A refused call leaves the area as it was. */
+static void show_area_after_refusal(void)
+{
+    static uint8_t before[PLANNER_MOST_AREA];
+    memset(area, 0xA5, sizeof area);
+    memcpy(before, area, sizeof area);
+    show("open plan, area of 63", planner_open_plan(sheet, sizeof sheet, area, 63));
+    printf("area: %s\n", memcmp(before, area, sizeof area) == 0 ? "as it was" : "changed");
+}
+
 int main(void)
 {
-    uint64_t result = planner_read(sheet, sizeof sheet);
-    printf("read: yards %zu, farms %zu\n", planner_yards(result), planner_farms(result));
+    show_counts("read", planner_read(sheet, sizeof sheet));
+    show_counts("read, one byte less", planner_read(sheet, sizeof sheet - 1));
     printf("farm 1: bytes %zu", planner_farm_len(sheet, sizeof sheet, 1));
     for (size_t at = 4; at < planner_farm_len(sheet, sizeof sheet, 1); at += 8)
         printf(" %u", planner_farm_byte(sheet, sizeof sheet, 1, at));
@@ -39,6 +59,6 @@ int main(void)
     show("limited plan, k = 2", planner_limited_plan(sheet, sizeof sheet, 2, area, sizeof area));
     show("limited plan, k = 4", planner_limited_plan(sheet, sizeof sheet, 4, area, sizeof area));
     show("pricing nothing", planner_price(sheet, sizeof sheet, 0, area, sizeof area));
-    show("open plan, area of 63", planner_open_plan(sheet, sizeof sheet, area, 63));
+    show_area_after_refusal();
     return 0;
 }

@@ -11,7 +11,7 @@ use Rattle.sheet.specs.Answers.{Answer, accepted, refused, ask, after}
 use Rattle.sheet.specs.Sheet.{instanceOf}
 use Rattle.sheet.specs.Reading.{Counts, counts, reading}
 use Rattle.sheet.proofs.ReadingLaws.{FirstNo, by-1, by-2, by-3, by-4, by-5, by-6, refused-when}
-use Rattle.sheet.proofs.AcceptedLaws.{WithinBounds, door, accepts}
+use Rattle.sheet.proofs.AcceptedLaws.{WithinBounds, instance-is, door, accepts}
 use Rattle.price.specs.Plan.{question9, planSet}
 use Rattle.price.specs.Pricing.{Result, Plan, plan, meaning, answer, question8, pricing}
 use Rattle.price.specs.declared.Planned.{Planned}
@@ -20,20 +20,22 @@ use Rattle.price.proofs.PlanLaws.{plan-length}
 use Rattle.search.specs.Settling.{openEnd, limitedEnd, planOf}
 use Rattle.search.specs.Planning.{openPlan, limitedPlan, question7, openPlanning, limitedPlanning}
 use Rattle.search.specs.Promises.{OfPlan}
+use Rattle.search.proofs.PlanningLaws.{open-small, limited-small}
 use Rattle.exports.specs.Numbers.{countsNumber, resultNumber, refusal, yardsRead, farmsRead, bytesWritten, movesMade, OfWritten, Within}
 
 -- ---- single numbers
 
--- a refusal number is read as it is
-pub refusal-said : (k : ℕ) → k < 2 ^ 8 → refusal k ≡ k
-unfolding refusal
-refusal-said k small = omega arith
-
-pub result-said : (r : Result) → r .bytes < 2 ^ 24
-    → (refusal (resultNumber (accepted r)) ≡ 0) × (bytesWritten (resultNumber (accepted r)) ≡ r .bytes)
+-- what a caller reads off the number of pricing or of a plan is what the call answered
+abbrev pub Said : Answer Result → Type 0
+Said (accepted r) =
+    (refusal (resultNumber (accepted r)) ≡ 0) × (bytesWritten (resultNumber (accepted r)) ≡ r .bytes)
     × (movesMade (resultNumber (accepted r)) ≡ r .moves)
+Said (refused k) = (refusal (resultNumber (refused k)) ≡ k) × (1 ≤ k)
+
+said : (a : Answer Result) → Within a → Said a
 unfolding refusal bytesWritten movesMade
-result-said r small = (omega arith, omega arith, omega arith)
+said (accepted r) (few, small) = (omega arith, omega arith, omega arith)
+said (refused k) (some, small) = (omega arith, some)
 
 -- ---- reading
 
@@ -55,9 +57,10 @@ module _ (s : List ℕ) where
       rw e (omega arith, omega (arith, f .few-yards), omega (arith, f .few-yards, f .few-farms))
 
   pub reading-refusal-said : (k : ℕ) → reading s ≡ refused k → (refusal (countsNumber (reading s)) ≡ k) × (1 ≤ k)
+  unfolding refusal
   reading-refusal-said k e =
       let l = read-refusal s k (refused-when s k e) in
-      (rw e (refusal-said k (omega (arith, l .1))), l .0)
+      (rw e (omega (arith, l .1)), l .0)
 
 -- ---- the answers of pricing and of the plans keep to their bits
 
@@ -76,43 +79,62 @@ after-within s f h = go (reading s) refl
     go (refused k) e = let l = read-refusal s k (refused-when s k e) in (l .0, omega (arith, l .1))
 
 -- the plan of an accepted sheet has fewer than 2^24 bytes
-plan-within : (I : Instance) (set total moves : ℕ) → WithinBounds I → Within (answer (accepted (plan I set total moves)))
+plan-within : (I : Instance) (set total moves : ℕ) → WithinBounds I → moves < 2 ^ 32 → Within (answer (accepted (plan I set total moves)))
 unfolding answer
-plan-within I set total moves w =
-    omega (arith, plan-length I set total moves, count-le (I .facilities) (member set), w .few-facilities, w .few-clients)
+plan-within I set total moves w small = (
+  omega (arith, plan-length I set total moves, count-le (I .facilities) (member set), w .few-facilities, w .few-clients),
+  small,
+)
 
 -- where question 9 comes last, before the plan
-ninth-within : (s : List ℕ) (room set total moves m n : ℕ) → reading s ≡ accepted (counts m n)
+ninth-within : (s : List ℕ) (room set total moves m n : ℕ) → reading s ≡ accepted (counts m n) → moves < 2 ^ 32
     → Within (answer (ask (question9 m n room) 9 (accepted (plan (instanceOf s) set total moves))))
-ninth-within s room set total moves m n e =
-    asked-within (question9 m n room) 9 _ (omega arith) (omega arith) (plan-within (instanceOf s) set total moves (door s m n e))
+ninth-within s room set total moves m n e small =
+    asked-within (question9 m n room) 9 _ (omega arith) (omega arith) (plan-within (instanceOf s) set total moves (door s m n e) small)
+
+-- the searches make fewer than 2^32 moves
+module _ (s : List ℕ) (m n : ℕ) (e : reading s ≡ accepted (counts m n)) where
+  open-moves : openEnd (instanceOf s) .moves < 2 ^ 32
+  open-moves = open-small s m n _ e (ap openEnd (sym (instance-is (accepts s m n e .has)))) .1
+
+  limited-moves : (k : ℕ) → limitedEnd (instanceOf s) k .moves < 2 ^ 32
+  limited-moves k = limited-small s m n _ e k (ap (λ I. limitedEnd I k) (sym (instance-is (accepts s m n e .has)))) .1
 
 module _ (s : List ℕ) (room : ℕ) where
   pub pricing-within : (set : ℕ) → Within (answer (pricing s set room))
   unfolding pricing
   pricing-within set =
       after-within s _ (λ m n e. asked-within (question8 m set) 8 _ (omega arith) (omega arith)
-      (ninth-within s room set (totalCost (instanceOf s) (member set)) 0 m n e))
+      (ninth-within s room set (totalCost (instanceOf s) (member set)) 0 m n e (omega arith)))
 
   pub open-within : Within (answer (openPlanning s room))
   unfolding openPlanning openPlan planOf
   open-within =
       let end = openEnd (instanceOf s) in
-      after-within s _ (ninth-within s room (end .set) (end .cost) (end .moves))
+      after-within s _ (λ m n e. ninth-within s room (end .set) (end .cost) (end .moves) m n e (open-moves s m n e))
 
   pub limited-within : (k : ℕ) → Within (answer (limitedPlanning s k room))
   unfolding limitedPlanning limitedPlan planOf
   limited-within k =
       let end = limitedEnd (instanceOf s) k in
       after-within s _ (λ m n e. asked-within (question7 m k) 7 _ (omega arith) (omega arith)
-      (ninth-within s room (end .set) (end .cost) (end .moves) m n e))
+      (ninth-within s room (end .set) (end .cost) (end .moves) m n e (limited-moves s m n e k)))
+
+  pub pricing-said : (set : ℕ) → Said (answer (pricing s set room))
+  pricing-said set = said (answer (pricing s set room)) (pricing-within set)
+
+  pub open-said : Said (answer (openPlanning s room))
+  open-said = said (answer (openPlanning s room)) open-within
+
+  pub limited-said : (k : ℕ) → Said (answer (limitedPlanning s k room))
+  limited-said k = said (answer (limitedPlanning s k room)) (limited-within k)
 
 -- ---- what is promised of a plan is promised of the bytes that the number tells
 
 module _ (r : ℕ) (area : List ℕ) (P : ℕ → Type 0) where
   pub of-written : (p : Planned) → Within (meaning p) → r ≡ resultNumber (meaning p) → OfPlan p area P → OfWritten r area P
-  of-written (Written bytes moves) small e h accepts =
-      let told : bytesWritten r ≡ bytes = ap bytesWritten e ∙ result-said (record { bytes = bytes; moves = moves }) small .1 in
+  of-written (Written bytes moves) within e h accepts =
+      let told : bytesWritten r ≡ bytes = ap bytesWritten e ∙ said (meaning (Written bytes moves)) within .1 in
       subst (λ b. P (planSet area b)) (sym told) (h bytes moves refl)
   of-written (Refused k) within e h accepts =
-      absurd (omega (arith, sym (refusal-said k (within .1)) ∙ sym (ap refusal e) ∙ accepts, within .0))
+      absurd (omega (arith, sym (said (meaning (Refused k)) within .0) ∙ sym (ap refusal e) ∙ accepts, within .0))

@@ -35,13 +35,13 @@ unfoldable pub bytesWritten : ℕ → ℕ
 bytesWritten r = r / 2 ^ 8 % 2 ^ 24
 
 unfoldable pub movesMade : ℕ → ℕ
-movesMade r = r / 2 ^ 32
+movesMade r = r / 2 ^ 32 % 2 ^ 32
 
 -- what holds of the set in the area, where the number says that the call was accepted and how many bytes it wrote
 abbrev pub OfWritten : ℕ → List ℕ → (ℕ → Type 0) → Type 0
 OfWritten r area P = refusal r ≡ 0 → P (planSet area (bytesWritten r))
 
--- what private functions require: the bytes written keep to their bits, and a refusal number to its own and is not 0
+-- What private functions require: the bytes written and the moves keep to their bits, and so does a refusal number, which is not 0.
 abbrev pub Within : Answer Result → Type 0
-Within (accepted r) = r .bytes < 2 ^ 24
+Within (accepted r) = (r .bytes < 2 ^ 24) × (r .moves < 2 ^ 32)
 Within (refused k) = (1 ≤ k) × (k < 2 ^ 8)

@@ -31,10 +31,17 @@ fn main() -> ExitCode {
         _ => Err(unusable(USAGE)),
     });
     let status = match done {
-        Ok(said) => print(io::stdout(), said),
-        Err(said) => print(io::stderr(), said),
+        Ok(Told::Result(said)) => print(io::stdout(), said),
+        Ok(Told::Message(said)) | Err(said) => print(io::stderr(), said),
     };
     ExitCode::from(status)
+}
+
+/// What a command has to say: its result, for standard output, or a message on what it did, for standard error. Faults of the
+/// command line and of files are messages too.
+enum Told {
+    Result(Said),
+    Message(Said),
 }
 
 /// Takes `--names TABLE.csv` out of the words of the command line.
@@ -47,24 +54,24 @@ fn names_option(words: &mut Vec<String>) -> Result<Option<String>, Said> {
     Ok(Some(table))
 }
 
-/// What reading answers is said on standard error, accepted or not.
-fn make(table: &str, file: &str) -> Result<Said, Said> {
+/// Writes the sheet, whatever reading answers to it, and says what that is.
+fn make(table: &str, file: &str) -> Result<Told, Said> {
     let typed = typed(table)?;
     if fs::canonicalize(file).is_ok_and(|path| fs::canonicalize(table).is_ok_and(|other| other == path)) {
         return Err(unusable(&format!("{file} is the table itself: the sheet would be written over it\n")));
     }
     let sheet = typed.table.sheet();
     fs::write(file, &sheet).map_err(|error| unusable(&format!("{file} cannot be written: {error}\n")))?;
-    Err(said(Request::Read, &sheet, &typed.names))
+    Ok(Told::Message(said(Request::Read, &sheet, &typed.names)))
 }
 
-fn tell(file: &str, request: Request, table: Option<String>) -> Result<Said, Said> {
+fn tell(file: &str, request: Request, table: Option<String>) -> Result<Told, Said> {
     let sheet = bytes(file)?;
     let names = match table {
         Some(table) => names_of(&sheet, file, &table)?,
         None => Names::default(),
     };
-    Ok(said(request, &sheet, &names))
+    Ok(Told::Result(said(request, &sheet, &names)))
 }
 
 /// The names of a table, which must be the one that the sheet was made from: others would send farms to wrong yards.

@@ -8,7 +8,6 @@ mod search;
 mod tests;
 
 use crate::{Answer, Counts, Written};
-use haul_sheet::HaulSheet;
 use questions::{ask, ask_1_to_4, ask_1_to_6, question_7, question_8, question_9};
 use search::Settled;
 
@@ -59,30 +58,5 @@ pub fn open_moves(sheet: &[u8]) -> Vec<Move> {
     match ask_1_to_6(sheet) {
         Ok(sheet) => search::open_plan(&sheet).moves,
         Err(_) => Vec::new(),
-    }
-}
-
-/// The moves of the limited plan for k, first to last; none where reading refuses the sheet or question 7 the k.
-pub fn limited_moves(sheet: &[u8], k: usize) -> Vec<Move> {
-    match ask_1_to_6(sheet) {
-        Ok(sheet) if question_7(&sheet, k) => search::limited_plan(&sheet, k).moves,
-        _ => Vec::new(),
-    }
-}
-
-/// The haul cost of a set; 0 where reading refuses the sheet or question 8 the set.
-pub fn haul_cost(sheet: &[u8], set: u32) -> u64 {
-    amount_of_set(sheet, set, HaulSheet::haul_cost)
-}
-
-/// The sum of the fees of a set's yards; 0 where reading refuses the sheet or question 8 the set.
-pub fn fees(sheet: &[u8], set: u32) -> u64 {
-    amount_of_set(sheet, set, HaulSheet::fees_of)
-}
-
-fn amount_of_set(sheet: &[u8], set: u32, amount: fn(&HaulSheet, u32) -> u64) -> u64 {
-    match ask_1_to_6(sheet) {
-        Ok(sheet) if question_8(&sheet, set) => amount(&sheet, set),
-        _ => 0,
     }
 }

@@ -1,11 +1,11 @@
 //! Sheets damaged by chance: what reading answers is left to the programs compared.
-use super::plain::accepted;
+use super::good_form::accepted;
 use super::{below, Sample};
 use crate::format::{record, HAUL, RECORD, YARD};
 use crate::random::Random;
 
 /// A sheet that was accepted, after one to four random damages.
-pub fn battered(random: &mut Random, yards: usize, farms: usize) -> Sample {
+pub fn damaged(random: &mut Random, yards: usize, farms: usize) -> Sample {
     let Sample { name, mut sheet, .. } = accepted(random, yards, farms);
     let damages = random.between(1, 4);
     for _ in 0..damages {

@@ -1,7 +1,7 @@
 //! Sheets with faults made on purpose, one function for each of questions 1 to 5. Each takes a sheet whose first "no" comes
 //! later than its own and makes its own question the first "no". So of faults put in from question 6 down to 1 the lowest
 //! is the first.
-use super::plain::{accepted, broken_by_one_cent};
+use super::good_form::{accepted, broken_by_one_cent};
 use super::{below, Sample};
 use crate::format::{record, HAUL, HIGHEST_FEE, HIGHEST_HAUL, LONGEST_SHEET, MOST_FARMS, MOST_YARDS, RECORD, YARD};
 use crate::random::Random;

@@ -1,4 +1,4 @@
-//! Seeded sheets of every kind: tables by the way their amounts are drawn (`tables`), sheets of good form (`plain`), sheets
+//! Seeded sheets of every kind: tables by the way their amounts are drawn (`tables`), sheets of good form (`good_form`), sheets
 //! with a fault made on purpose (`faults`) or by chance (`chance`), and those that document 01 names (`named`).
 use crate::random::Random;
 use crate::table::Table;
@@ -6,14 +6,14 @@ use crate::{Answer, Counts};
 
 mod chance;
 mod faults;
+mod good_form;
 mod named;
-mod plain;
 mod tables;
 
-pub use chance::{battered, loose_records, random_bytes};
+pub use chance::{damaged, loose_records, random_bytes};
 pub use faults::{faulty, several_faults};
+pub use good_form::{accepted, broken_by_one_cent, kept_to_the_cent, unrepaired};
 pub use named::named;
-pub use plain::{accepted, broken_by_one_cent, kept_to_the_cent, unrepaired};
 pub use tables::{from_lists, manhattan, plane, repair, small_amounts, within_threefold};
 
 /// A sheet under the name that a failed comparison prints.

@@ -43,12 +43,10 @@ fn shapes() -> Vec<Sample> {
 
 fn amounts() -> Vec<Sample> {
     let two_yards = |hauls: [[u32; 2]; 2]| Table { fees: vec![0, 0], hauls: hauls.map(Vec::from).to_vec() };
-    let one_yard = |fee, haul| Table { fees: vec![fee], hauls: vec![vec![haul]] };
-    let dearest =
-        |farms| Table { fees: vec![HIGHEST_FEE; MOST_YARDS], hauls: vec![vec![HIGHEST_HAUL; MOST_YARDS]; farms] };
-    let s = Table { fees: vec![1, 4, 2], hauls: vec![vec![1, 3, 9], vec![5, 1, 5], vec![9, 5, 1]] };
+    let one_yard = |fee, haul| Table::even(1, 1, fee, haul);
+    let dearest = |farms| Table::even(MOST_YARDS, farms, HIGHEST_FEE, HIGHEST_HAUL);
     vec![
-        Sample::of_table("S", &s, None),
+        Sample::of_table("S", &Table::s(), None),
         Sample::of_table("1, 1 and 1, 3", &two_yards([[1, 1], [1, 3]]), None),
         Sample::of_table("1, 1 and 1, 4", &two_yards([[1, 1], [1, 4]]), Some(6)),
         Sample::of_table("1, 1 and 4, 1", &two_yards([[1, 1], [4, 1]]), Some(6)),
@@ -65,7 +63,7 @@ fn amounts() -> Vec<Sample> {
 
 /// Every fee and every haul is one cent.
 fn even(yards: usize, farms: usize) -> Table {
-    Table { fees: vec![1; yards], hauls: vec![vec![1; yards]; farms] }
+    Table::even(yards, farms, 1, 1)
 }
 
 fn refused(name: &str, sheet: Vec<u8>, number: u8) -> Sample {

@@ -20,11 +20,13 @@ fn library_farm_hauls(sheet: &[u8], farm: usize) -> Vec<u8> {
 }
 
 /// Compares line by line, and shows every difference before it fails.
-fn compare(calls: &Calls, farm_hauls: FarmHauls) {
-    let came = [reading::all(calls), reading::farms(farm_hauls), planning::all(calls)].concat();
-    let must_come: Vec<&str> = MUST_COME.lines().collect();
-    assert_eq!(must_come.len(), LINE_COUNT, "lines in the file");
-    assert_eq!(came.len(), LINE_COUNT, "{}: lines that came", calls.name);
+fn compare(calls: &Calls, farm_hauls: Option<FarmHauls>) {
+    let farms = farm_hauls.map_or(Vec::new(), reading::farms);
+    let came = [reading::all(calls), farms, planning::all(calls)].concat();
+    assert_eq!(MUST_COME.lines().count(), LINE_COUNT, "lines in the file");
+    let must_come: Vec<&str> =
+        MUST_COME.lines().filter(|line| farm_hauls.is_some() || !line.starts_with("farm ")).collect();
+    assert_eq!(came.len(), must_come.len(), "{}: lines that came", calls.name);
     let mut differences = 0;
     for (at, (came, must_come)) in came.iter().zip(must_come).enumerate() {
         if came != must_come {
@@ -37,16 +39,16 @@ fn compare(calls: &Calls, farm_hauls: FarmHauls) {
 
 #[test]
 fn the_library_gives_the_lines() {
-    compare(&LIBRARY, library_farm_hauls);
+    compare(&LIBRARY, Some(library_farm_hauls));
 }
 
 #[test]
 fn the_literal_program_gives_the_lines() {
-    compare(&LITERAL, |sheet, farm| literal::farm_hauls(sheet, farm).to_vec());
+    compare(&LITERAL, Some(|sheet, farm| literal::farm_hauls(sheet, farm).to_vec()));
 }
 
-/// It has no call for a farm's stretch: the library's stands there.
+/// It has no call for a farm's stretch.
 #[test]
 fn the_fast_program_gives_the_lines() {
-    compare(&FAST, library_farm_hauls);
+    compare(&FAST, None);
 }

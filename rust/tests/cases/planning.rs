@@ -1,6 +1,6 @@
 //! Cases of pricing and of the two plans. The area holds a pattern before each call, so that every byte written shows.
 use crate::sheets::{
-    changed_s, dropping, haul, haul_place, lowest, of_length, s, uniform, yard, yard_place, KIND_5A, S_LENGTH,
+    changed_s, dropping, even, haul, haul_place, lowest, of_length, s, yard, yard_place, KIND_5A, S_LENGTH,
 };
 use planner::calls::{Calls, PlanCall};
 use planner::format::{amount, record, HIGHEST_FEE, HIGHEST_HAUL, MOST_AREA, MOST_FARMS, MOST_YARDS, RECORD};
@@ -143,7 +143,7 @@ fn unread_sheets(calls: &Calls) -> Vec<String> {
 
 /// The most yards and farms, at the highest amounts: one yard is opened, and 32 are kept.
 fn largest(calls: &Calls) -> Vec<String> {
-    let sheet = uniform(MOST_YARDS, MOST_FARMS, HIGHEST_FEE, HIGHEST_HAUL);
+    let sheet = even(MOST_YARDS, MOST_FARMS, HIGHEST_FEE, HIGHEST_HAUL);
     let room = MOST_AREA + RECORD;
     vec![
         open_case(calls, "32 yards, 128 farms, open plan", &sheet, room),

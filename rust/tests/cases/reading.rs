@@ -1,5 +1,5 @@
 //! Cases of reading, and of a farm's stretch.
-use crate::sheets::{changed_s, haul, haul_place, of_length, s, uniform, yard, yard_place, Record, KIND_5A, S_LENGTH};
+use crate::sheets::{changed_s, even, haul, haul_place, of_length, s, yard, yard_place, Record, KIND_5A, S_LENGTH};
 use crate::FarmHauls;
 use planner::calls::Calls;
 use planner::format::{
@@ -20,12 +20,12 @@ fn read_case(calls: &Calls, name: &str, sheet: &[u8]) -> String {
 fn lengths(calls: &Calls) -> Vec<String> {
     let case = |name, sheet: Vec<u8>| read_case(calls, name, &sheet);
     vec![
-        case("empty", uniform(0, 0, 0, 0)),
-        case("8 bytes", uniform(1, 0, 0, 0)),
-        case("17 bytes", of_length(uniform(1, 1, 0, 0), SHORTEST_SHEET + 1)),
-        case("1 yard, 1 farm", uniform(1, 1, 0, 0)),
-        case("32 yards, 128 farms", uniform(MOST_YARDS, MOST_FARMS, HIGHEST_FEE, HIGHEST_HAUL)),
-        case("33032 bytes", of_length(uniform(MOST_YARDS, MOST_FARMS, 0, 0), LONGEST_SHEET + RECORD)),
+        case("empty", even(0, 0, 0, 0)),
+        case("8 bytes", even(1, 0, 0, 0)),
+        case("17 bytes", of_length(even(1, 1, 0, 0), SHORTEST_SHEET + 1)),
+        case("1 yard, 1 farm", even(1, 1, 0, 0)),
+        case("32 yards, 128 farms", even(MOST_YARDS, MOST_FARMS, HIGHEST_FEE, HIGHEST_HAUL)),
+        case("33032 bytes", of_length(even(MOST_YARDS, MOST_FARMS, 0, 0), LONGEST_SHEET + RECORD)),
     ]
 }
 
@@ -34,17 +34,17 @@ fn counts(calls: &Calls) -> Vec<String> {
     let two_hauls = [haul(0, 0, 0), haul(0, 1, 0)].concat();
     vec![
         case("two haul records alone", two_hauls),
-        case("33 yards, 1 farm", uniform(MOST_YARDS + 1, 1, 0, 0)),
-        case("2 yards alone", uniform(2, 0, 0, 0)),
-        case("32 yards alone", uniform(MOST_YARDS, 0, 0, 0)),
-        case("1 yard, 128 farms", uniform(1, MOST_FARMS, 0, 0)),
-        case("1 yard, 129 farms", uniform(1, MOST_FARMS + 1, 0, 0)),
+        case("33 yards, 1 farm", even(MOST_YARDS + 1, 1, 0, 0)),
+        case("2 yards alone", even(2, 0, 0, 0)),
+        case("32 yards alone", even(MOST_YARDS, 0, 0, 0)),
+        case("1 yard, 128 farms", even(1, MOST_FARMS, 0, 0)),
+        case("1 yard, 129 farms", even(1, MOST_FARMS + 1, 0, 0)),
         case("S without its last haul", of_length(s(), S_LENGTH - RECORD)),
     ]
 }
 
 fn amounts(calls: &Calls) -> Vec<String> {
-    let case = |name, fee, haul| read_case(calls, name, &uniform(2, 2, fee, haul));
+    let case = |name, fee, haul| read_case(calls, name, &even(2, 2, fee, haul));
     vec![
         case("fee 50000000", HIGHEST_FEE, 1),
         case("fee 50000001", HIGHEST_FEE + 1, 1),

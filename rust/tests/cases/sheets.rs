@@ -21,7 +21,7 @@ pub fn haul(farm: usize, yard: usize, amount: u32) -> Record {
 
 /// Document 01's sheet S.
 pub fn s() -> Vec<u8> {
-    Table { fees: vec![1, 4, 2], hauls: vec![vec![1, 3, 9], vec![5, 1, 5], vec![9, 5, 1]] }.sheet()
+    Table::s().sheet()
 }
 
 /// The offset of a yard's record in S.
@@ -50,8 +50,8 @@ pub fn changed_s(changes: &[(usize, Record)], length: usize) -> Vec<u8> {
 }
 
 /// A sheet with one fee and one haul throughout.
-pub fn uniform(yards: usize, farms: usize, fee: u32, haul: u32) -> Vec<u8> {
-    Table { fees: vec![fee; yards], hauls: vec![vec![haul; yards]; farms] }.sheet()
+pub fn even(yards: usize, farms: usize, fee: u32, haul: u32) -> Vec<u8> {
+    Table::even(yards, farms, fee, haul).sheet()
 }
 
 /// Four yards and four farms. The open search starts at yard 3, adds 0 and then 1, swaps 3 for 2, and drops 0.

@@ -17,3 +17,9 @@ fn kept_sheet(path: &Path) -> Sample {
     let name = path.file_name().expect("a file").to_string_lossy().into_owned();
     Sample { name, sheet: std::fs::read(path).expect("a readable sheet"), reading: None }
 }
+
+/// The moves of a kept sheet's open plan, from the file beside it.
+#[allow(dead_code)] // the rivals ask for the sheets alone
+pub fn kept_moves(name: &str) -> String {
+    std::fs::read_to_string(Path::new(FOLDER).join(name).with_extension("moves")).expect("the moves beside the sheet")
+}

@@ -13,7 +13,7 @@ use planner::{library, Answer, Written};
 use prices::{adds_and_drops, swaps, Prices};
 use worst::{Seen, Worst};
 
-/// Sheets of every kind.
+/// Random sheets of every kind.
 const SHEETS: u64 = 1_500;
 const UP_TO_YARDS: u64 = 10;
 const UP_TO_FARMS: u64 = 12;
@@ -21,13 +21,15 @@ const UP_TO_FARMS: u64 = 12;
 const MOST_YARDS_KEPT: usize = 12;
 const LEAST_KEPT: u64 = 5;
 /// Sheets that are changed step by step towards a worse ratio, and the steps.
-const CLIMBS: u64 = 10;
+const WORSENED: u64 = 10;
 const STEPS: u64 = 10_000;
+/// Of the changed sheets some are refused; at least so many are compared.
+const LEAST_WORSENED: u64 = 50_000;
 /// The amounts that a step draws from.
 const HIGHEST_AMOUNT: u64 = 12;
 
 #[test]
-fn no_rival_is_far_below_our_lists() {
+fn no_rival_is_far_below_our_lists_on_random_sheets() {
     let mut seen = Seen::default();
     for seed in 0..SHEETS {
         let mut random = Random::new(seed);
@@ -36,11 +38,12 @@ fn no_rival_is_far_below_our_lists() {
         seen.take_in(compared(&sheet, yards, &format!("seed {seed}, {name}")));
     }
     seen.print();
+    seen.enough(SHEETS);
 }
 
 /// The same where a search without drops would stop too early.
 #[test]
-fn nor_on_sheets_kept_for_their_drops() {
+fn no_rival_is_far_below_our_lists_on_kept_sheets() {
     let mut seen = Seen::default();
     for Sample { name, sheet, .. } in kept::kept_sheets() {
         let yards = library::read(&sheet).expect("an accepted sheet").yards;
@@ -48,23 +51,24 @@ fn nor_on_sheets_kept_for_their_drops() {
             seen.take_in(compared(&sheet, yards, &name));
         }
     }
-    assert!(seen.sheets >= LEAST_KEPT, "{} kept sheets are small enough", seen.sheets);
     seen.print();
+    seen.enough(LEAST_KEPT);
 }
 
 /// The same on sheets changed towards a high open total or high limited hauls, since random sheets stay far below the bounds.
 #[test]
-fn nor_on_sheets_that_are_made_worse() {
+fn no_rival_is_far_below_our_lists_on_worsened_sheets() {
     let mut seen = Seen::default();
-    for seed in 0..CLIMBS {
-        climb(seed, &mut seen, |seen| &seen.open_total);
-        climb(seed, &mut seen, |seen| &seen.limited_hauls);
+    for seed in 0..WORSENED {
+        worsen(seed, &mut seen, |seen| &seen.open_total);
+        worsen(seed, &mut seen, |seen| &seen.limited_hauls);
     }
     seen.print();
+    seen.enough(LEAST_WORSENED);
 }
 
 /// Changes one amount at a time and keeps the change where the ratio is not lower. Every sheet on the way is compared.
-fn climb(seed: u64, seen: &mut Seen, ratio: fn(&Seen) -> &Worst) {
+fn worsen(seed: u64, seen: &mut Seen, ratio: fn(&Seen) -> &Worst) {
     let mut random = Random::new(seed);
     let (yards, farms) = (random.between(4, 7) as usize, random.between(3, 8) as usize);
     let mut table = small_amounts(&mut random, yards, farms, 6);
@@ -101,6 +105,7 @@ fn compared(sheet: &[u8], yards: usize, name: &str) -> Seen {
     let prices = Prices::of(sheet, yards);
     let mut seen = Seen { sheets: 1, ..Seen::default() };
     open_list(&prices, list(sheet, |area| library::open_plan(sheet, area)), name, &mut seen);
+    assert_eq!(seen.rivals_of_open, (1 << yards) - 1, "{name}: every set but the empty one is a rival");
     for k in 1..=yards {
         limited_list(&prices, k, list(sheet, |area| library::limited_plan(sheet, k, area)), name, &mut seen);
     }

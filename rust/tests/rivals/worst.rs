@@ -63,6 +63,14 @@ impl Seen {
         self.rivals_of_limited += other.rivals_of_limited;
     }
 
+    /// So many sheets were compared, and on average at least as many rivals of each list as a sheet of two yards has.
+    pub fn enough(&self, least_sheets: u64) {
+        let Seen { sheets, rivals_of_open, rivals_of_limited, .. } = self;
+        assert!(*sheets >= least_sheets, "{sheets} sheets");
+        assert!(*rivals_of_open >= 3 * sheets, "{rivals_of_open} rivals of open lists");
+        assert!(*rivals_of_limited >= 3 * sheets, "{rivals_of_limited} rivals of limited lists");
+    }
+
     pub fn print(&self) {
         self.open_hauls.print("open hauls to the rival's fees and hauls, at most 1");
         self.open_fees.print("open fees to the rival's fees and twice its hauls, at most 1");

@@ -12,7 +12,7 @@ enum-known-planned : tie.Need-enum-known-planned
 enum-known-planned c = search needs
 
 mul-result : tie.Need-mul-result
-mul-result c = omega (arith, subst Within (ap meaning (c .before .planned .given .1)) (c .before .before .before .pre))
+mul-result c = omega (arith, subst Within (ap meaning (c .before .planned .given .1)) (c .before .before .before .pre) .0)
 
 cast-result : tie.Need-cast-result
 cast-result c = search needs
@@ -21,7 +21,7 @@ mul-result-2 : tie.Need-mul-result-2
 mul-result-2 c = search needs
 
 add-result : tie.Need-add-result
-add-result c = omega (arith, subst Within (ap meaning (c .before .planned .given .1)) (c .before .before .before .pre))
+add-result c = omega (arith, subst Within (ap meaning (c .before .planned .given .1)) (c .before .before .before .pre) .0)
 
 enum-known-planned-2 : tie.Need-enum-known-planned-2
 enum-known-planned-2 c = search needs

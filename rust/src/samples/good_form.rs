@@ -15,7 +15,7 @@ const ALLOWED: usize = 4;
 const LIFELIKE_SPAN: u32 = 60_000;
 const LIFELIKE_FEE: u32 = 400_000;
 
-/// A sheet that reading accepts, of a kind taken by lot.
+/// A sheet that reading accepts, of a kind drawn at random.
 pub fn accepted(random: &mut Random, yards: usize, farms: usize) -> Sample {
     let (name, table) = match random.between(0, 9) {
         0 => ("plane", plane(random, yards, farms, 60, 40)),
