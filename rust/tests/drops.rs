@@ -4,13 +4,11 @@
 //!
 //! `cargo test --release --test drops -- --ignored --nocapture` searches for more and prints them.
 mod compare;
-mod kept;
 
 use compare::{every_call, Name, Tally};
-use kept::{kept_moves, kept_sheets};
 use planner::literal::{open_moves, Move};
 use planner::random::Random;
-use planner::samples::{manhattan, plane};
+use planner::samples::{kept, kept_moves, manhattan, plane};
 use planner::table::Table;
 
 const LEAST_FILES: usize = 5;
@@ -19,12 +17,12 @@ const TRIES: u64 = 300_000;
 
 #[test]
 fn kept_sheets_drop_a_yard_and_agree() {
-    let sheets = kept_sheets();
+    let sheets = kept().expect("sheets/drops");
     assert!(sheets.len() >= LEAST_FILES, "{} sheets are kept", sheets.len());
     let mut tally = Tally::default();
     for (seed, sample) in sheets.iter().enumerate() {
         let moves = open_moves(&sample.sheet);
-        assert_eq!(in_lines(&moves), kept_moves(&sample.name), "{}", sample.name);
+        assert_eq!(in_lines(&moves), kept_moves(&sample.name).expect("a file of moves"), "{}", sample.name);
         assert!(drops(&moves) > 0, "{} makes no drop", sample.name);
         every_call(sample, seed as u64, &mut tally);
     }

@@ -1,5 +1,6 @@
 //! Seeded sheets of every kind: tables by the way their amounts are drawn (`tables`), sheets of good form (`good_form`), sheets
-//! with a fault made on purpose (`faults`) or by chance (`chance`), and those that document 01 names (`named`).
+//! with a fault made on purpose (`faults`) or by chance (`chance`), those that document 01 names (`named`), and the
+//! kept sheets whose open plan drops a yard (`kept`).
 use crate::random::Random;
 use crate::table::Table;
 use crate::{Answer, Counts};
@@ -7,12 +8,14 @@ use crate::{Answer, Counts};
 mod chance;
 mod faults;
 mod good_form;
+mod kept;
 mod named;
 mod tables;
 
 pub use chance::{damaged, loose_records, random_bytes};
 pub use faults::{faulty, several_faults};
 pub use good_form::{accepted, broken_by_one_cent, kept_to_the_cent, unrepaired};
+pub use kept::{kept, kept_moves};
 pub use named::named;
 pub use tables::{from_lists, manhattan, plane, repair, small_amounts, within_threefold};
 

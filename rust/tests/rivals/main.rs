@@ -1,13 +1,11 @@
 //! Demand 3 on small sheets, against every rival: our list is the yards in the plan's records of kind 4F, and both buyers are
 //! priced by the sheet's own prices, never by the printed total. Also that no move is left that lowers the cost of our list.
-#[path = "../kept/mod.rs"]
-mod kept;
 mod prices;
 mod worst;
 
 use planner::format::{OPEN, RECORD};
 use planner::random::Random;
-use planner::samples::{accepted, repair, small_amounts, Sample};
+use planner::samples::{accepted, kept, repair, small_amounts, Sample};
 use planner::table::Table;
 use planner::{library, Answer, Written};
 use prices::{adds_and_drops, swaps, Prices};
@@ -45,7 +43,7 @@ fn no_rival_is_far_below_our_lists_on_random_sheets() {
 #[test]
 fn no_rival_is_far_below_our_lists_on_kept_sheets() {
     let mut seen = Seen::default();
-    for Sample { name, sheet, .. } in kept::kept_sheets() {
+    for Sample { name, sheet, .. } in kept().expect("sheets/drops") {
         let yards = library::read(&sheet).expect("an accepted sheet").yards;
         if yards <= MOST_YARDS_KEPT {
             seen.take_in(compared(&sheet, yards, &name));

@@ -1,7 +1,7 @@
 //! The calls that are timed, put to each implementation.
-use crate::inputs::Input;
 use planner::calls::{Calls, PlanCall, ALL, FAST};
 use planner::format::MOST_AREA;
+use planner::samples::Sample;
 use planner::{fast, Answer, Counts, Written};
 
 /// Every second yard.
@@ -54,7 +54,7 @@ pub fn after_reading(call: PlanCall, hauls: &fast::Hauls, area: &mut [u8]) -> Wr
 }
 
 /// The three implementations must accept the sheet, and give the same outcome and area.
-pub fn compare(call: Call, input: &Input) -> Result<(), String> {
+pub fn compare(call: Call, input: &Sample) -> Result<(), String> {
     let [ours, literal, fast] = ALL.each_ref().map(|calls| {
         let mut area = [0xA5; MOST_AREA];
         (call.made(calls, &input.sheet, &mut area), area)
@@ -71,7 +71,7 @@ pub fn compare(call: Call, input: &Input) -> Result<(), String> {
 }
 
 /// What all three write for a call that was compared.
-pub fn plan(call: Call, input: &Input) -> Written {
+pub fn plan(call: Call, input: &Sample) -> Written {
     match call.made(&FAST, &input.sheet, &mut [0; MOST_AREA]) {
         Outcome::Written(Ok(written)) => written,
         refused => unreachable!("{refused:?}"),

@@ -6,6 +6,7 @@ mod printing;
 mod timing;
 
 use calls::{compare, CALLS, SEARCHES};
+use planner::samples;
 use std::process::ExitCode;
 
 fn main() -> ExitCode {
@@ -20,7 +21,7 @@ fn main() -> ExitCode {
 
 fn bench() -> Result<(), String> {
     let inputs = inputs::full_sheets();
-    let drops = inputs::kept_drops()?;
+    let drops = samples::kept().map_err(|fault| format!("sheets/drops: {fault}"))?;
     for input in &inputs {
         CALLS.iter().try_for_each(|&call| compare(call, input))?;
     }

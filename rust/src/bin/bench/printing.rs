@@ -1,10 +1,11 @@
 //! The tables that the benchmark prints.
 use crate::calls::{plan, Call, CALLS, SEARCHES};
-use crate::inputs::{Input, SPAN};
+use crate::inputs::SPAN;
 use crate::timing::{time, Three, Times, ROUNDS};
 use planner::format::{MOST_FARMS, MOST_YARDS, RECORD};
+use planner::samples::Sample;
 
-pub fn print_inputs(inputs: &[Input]) {
+pub fn print_inputs(inputs: &[Sample]) {
     println!("Sheets of `samples::plane`: {MOST_YARDS} yards and {MOST_FARMS} farms in a square of side {SPAN}.");
     println!("Ours, literal and fast give the same answers and areas on each of them.\n");
     println!("{:<28} {:>10}   moves: {}", "sheet", "open yards", SEARCHES.map(Call::name).join("; "));
@@ -44,7 +45,7 @@ fn without_reading(call: Times, read: Times) -> Three {
     [ours - read.whole[0], literal - read.whole[1], call.fast_after_reading]
 }
 
-pub fn print_drops(drops: &[Input]) {
+pub fn print_drops(drops: &[Sample]) {
     println!("\nOpen plan of the kept sheets that drop a yard, microseconds:");
     print_heading();
     for input in drops {

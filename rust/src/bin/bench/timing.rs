@@ -1,9 +1,9 @@
 //! The least times of calls, where calls and implementations take turns.
 use crate::calls::{after_reading, Call};
-use crate::inputs::Input;
 use planner::calls::ALL;
 use planner::fast::Hauls;
 use planner::format::MOST_AREA;
+use planner::samples::Sample;
 use std::hint::black_box;
 use std::time::{Duration, Instant};
 
@@ -26,7 +26,7 @@ pub struct Times {
 
 const UNTIMED: Times = Times { whole: [f64::INFINITY; 3], fast_after_reading: f64::INFINITY };
 
-pub fn time<const COUNT: usize>(calls: [Call; COUNT], input: &Input) -> [Times; COUNT] {
+pub fn time<const COUNT: usize>(calls: [Call; COUNT], input: &Sample) -> [Times; COUNT] {
     let hauls = read_table(input);
     let mut times = [UNTIMED; COUNT];
     for _ in 0..ROUNDS {
@@ -44,7 +44,7 @@ pub fn time<const COUNT: usize>(calls: [Call; COUNT], input: &Input) -> [Times; 
 }
 
 /// The table of a sheet that was compared.
-fn read_table(input: &Input) -> Hauls {
+fn read_table(input: &Sample) -> Hauls {
     let mut hauls = Hauls::none();
     hauls.read(&input.sheet).unwrap_or_else(|number| unreachable!("{} is refused: {number}", input.name));
     hauls
