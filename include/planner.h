@@ -9,8 +9,8 @@
  * Every call ends, whatever the bytes of the sheet, the set, k and the lengths are, and either gives its whole result or refuses by
  * the number of the first question of document 01 that is answered no. The caller sees to three things that no proof can: no
  * pointer is NULL (also where its length is 0), as many bytes as the length says can be read, and in an area written, and an area
- * overlaps no sheet. A sheet is only read. No call keeps a pointer, allocates memory, or has a state of its own: calls from several
- * threads are free, each with its own area.
+ * overlaps no sheet. A sheet is only read. No call keeps a pointer, allocates memory, or has a state of its own: several threads
+ * may call at once, each with its own area.
  *
  * A record has eight bytes: byte 0 the kind, byte 1 a yard number, byte 2 a farm number, byte 3 zero, bytes 4 to 7 an amount in
  * cents, lowest byte first. Numbers count from 0; bytes not named are zero.

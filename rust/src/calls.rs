@@ -45,7 +45,8 @@ pub enum PlanCall {
 }
 
 impl PlanCall {
-    pub fn made(self, calls: &Calls, sheet: &[u8], area: &mut [u8]) -> Answer<Written> {
+    /// The answer of an implementation to the call.
+    pub fn put_to(self, calls: &Calls, sheet: &[u8], area: &mut [u8]) -> Answer<Written> {
         match self {
             PlanCall::Price { set } => (calls.price)(sheet, set, area),
             PlanCall::OpenPlan => (calls.open_plan)(sheet, area),

@@ -6,8 +6,8 @@
 //! Barleben,58400,120500
 //! ```
 //!
-//! Amounts are whole cents, as on the sheet, and the first cell says so: an amount like 12.50 is a fault, never rounded or
-//! read as euros. Cells are parted by commas or, as some spreadsheets do it, by semicolons.
+//! Amounts are whole cents, as on the sheet, and the first cell says so. Cells are parted by commas or, as some spreadsheets do
+//! it, by semicolons.
 use crate::format::{MOST_FARMS, MOST_YARDS};
 use crate::table::Table;
 use crate::words::Names;

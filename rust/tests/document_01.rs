@@ -58,7 +58,7 @@ fn plan(open: &[(usize, u32)], farms: &[(usize, u32)], total: u32, moves: u32) -
 /// The answer to a call, and the lent area after it.
 fn result(calls: &Calls, sheet: &[u8], call: Call, area_bytes: usize) -> (Answer<Written>, Vec<u8>) {
     let mut area = vec![BEFORE; area_bytes];
-    let answer = call.made(calls, sheet, &mut area);
+    let answer = call.put_to(calls, sheet, &mut area);
     (answer, area)
 }
 

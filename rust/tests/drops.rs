@@ -1,8 +1,6 @@
-//! Sheets whose open plan drops a yard on its way, kept in `sheets/drops` and compared in every call. Small random sheets do
-//! so about once in four thousand, those of 6 to 20 yards once in seven hundred, full ones once in 250; two drops in one plan
-//! are far rarer.
+//! Sheets whose open plan drops a yard on its way, kept in `sheets/drops` and compared in every call.
 //!
-//! `cargo test --release --test drops -- --ignored --nocapture` searches for more and prints them.
+//! `cargo test --release --test drops -- --ignored --nocapture` searches for more, and says how rare they are.
 mod compare;
 
 use compare::{every_call, Name, Tally};
@@ -11,14 +9,14 @@ use planner::random::Random;
 use planner::samples::{kept, kept_moves, manhattan, plane};
 use planner::table::Table;
 
-const LEAST_FILES: usize = 5;
+const KEPT: usize = 13;
 /// Sheets that one run of the search looks at.
 const TRIES: u64 = 300_000;
 
 #[test]
 fn kept_sheets_drop_a_yard_and_agree() {
     let sheets = kept().expect("sheets/drops");
-    assert!(sheets.len() >= LEAST_FILES, "{} sheets are kept", sheets.len());
+    assert_eq!(sheets.len(), KEPT, "kept sheets");
     let mut tally = Tally::default();
     for (seed, sample) in sheets.iter().enumerate() {
         let moves = open_moves(&sample.sheet);
@@ -43,32 +41,35 @@ fn in_lines(moves: &[Move]) -> String {
 #[test]
 #[ignore = "a search for more sheets to keep"]
 fn find_drops() {
-    let mut found = 0;
+    // For small and for larger sheets: how many were looked at, and how many of them drop a yard.
+    let mut looked_at = [0, 0];
+    let mut found = [0, 0];
     for seed in 0..TRIES {
         let mut random = Random::new(seed);
-        let (kind, table) = candidate(&mut random);
+        let larger = random.one_in(4);
+        let (kind, table) = candidate(&mut random, larger);
         let sheet = table.sheet();
         let moves = open_moves(&sheet);
+        looked_at[usize::from(larger)] += 1;
         if drops(&moves) > 0 {
-            found += 1;
+            found[usize::from(larger)] += 1;
             println!("seed {seed}, {kind}: {} yards, {} farms, {moves:?}", table.fees.len(), table.hauls.len());
-            println!("fees {:?}, hauls {:?}", table.fees, table.hauls);
             println!("xxd -r -p: {}", sheet.iter().map(|byte| format!("{byte:02x}")).collect::<String>());
         }
     }
-    assert!(found > 0, "{TRIES} sheets without a drop");
+    println!("small and larger sheets: {found:?} of {looked_at:?} drop a yard");
+    assert!(found.iter().all(|&count| count > 0), "no drop among {looked_at:?}");
 }
 
 /// Shapes small and larger, and fees near the hauls, where adding and dropping both pay.
-fn candidate(random: &mut Random) -> (&'static str, Table) {
-    let larger = random.one_in(4);
+fn candidate(random: &mut Random, larger: bool) -> (&'static str, Table) {
     let (yards, farms) = if larger { ((9, 20), (9, 30)) } else { ((3, 8), (2, 8)) };
     let (yards, farms) = (random.between(yards.0, yards.1) as usize, random.between(farms.0, farms.1) as usize);
     let fee_factor = if larger { random.between(1, 5) as u32 } else { 1 };
     match random.between(0, 2) {
         0 => ("grid", manhattan(random, yards, farms, 8, 6 * fee_factor)),
         1 => ("plane", plane(random, yards, farms, 40, 30 * fee_factor)),
-        _ => ("lifelike plane", plane(random, yards, farms, 60_000, 45_000 * fee_factor)),
+        _ => ("wide plane", plane(random, yards, farms, 60_000, 45_000 * fee_factor)),
     }
 }
 

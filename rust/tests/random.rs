@@ -1,4 +1,4 @@
-//! The proved library against the other programs on seeded sheets of every kind.
+//! The proved library against the other implementations on seeded sheets of every kind.
 //!
 //! `PLANNER_ROUNDS=20 cargo test --release --test random -- --nocapture` makes twenty rounds, the first as without it and
 //! each other with its own seeds. The counts printed are those of all rounds; the least counts grow with the rounds.
@@ -38,7 +38,7 @@ const ANSWERS: [(Name, &[u8]); 4] = [
 ];
 
 #[test]
-fn library_agrees_with_the_other_programs() {
+fn the_library_agrees_with_the_other_implementations() {
     let rounds = std::env::var("PLANNER_ROUNDS").map_or(1, |text| text.parse().expect("PLANNER_ROUNDS is a number"));
     assert!(rounds > 0, "PLANNER_ROUNDS is at least 1");
     let mut tally = Tally::default();

@@ -23,9 +23,9 @@ use Rattle.search.specs.Promises.{OfPlan}
 use Rattle.search.proofs.PlanningLaws.{open-small, limited-small}
 use Rattle.exports.specs.Numbers.{countsNumber, resultNumber, refusal, yardsRead, farmsRead, bytesWritten, movesMade, OfWritten, Within}
 
--- ---- single numbers
+-- ---- what a number of pricing or of a plan says
 
--- what a caller reads off the number of pricing or of a plan is what the call answered
+-- what a caller reads off it is what the call answered: no refusal, the bytes and the moves, or the refusal number, which is not 0
 abbrev pub Said : Answer Result → Type 0
 Said (accepted r) =
     (refusal (resultNumber (accepted r)) ≡ 0) × (bytesWritten (resultNumber (accepted r)) ≡ r .bytes)
@@ -49,6 +49,7 @@ read-refusal s k (by-5 y a) = (omega arith, omega arith)
 read-refusal s k (by-6 y a b) = (omega arith, omega arith)
 
 module _ (s : List ℕ) where
+  -- off the number of an accepted reading: no refusal, m and n
   pub counts-said : (m n : ℕ) → reading s ≡ accepted (counts m n) → (refusal (countsNumber (reading s)) ≡ 0)
       × (yardsRead (countsNumber (reading s)) ≡ m) × (farmsRead (countsNumber (reading s)) ≡ n)
   unfolding refusal yardsRead farmsRead
@@ -56,6 +57,7 @@ module _ (s : List ℕ) where
       let f = accepts s m n e .has in
       rw e (omega arith, omega (arith, f .few-yards), omega (arith, f .few-yards, f .few-farms))
 
+  -- off that of a refused one: its number, which is not 0
   pub reading-refusal-said : (k : ℕ) → reading s ≡ refused k → (refusal (countsNumber (reading s)) ≡ k) × (1 ≤ k)
   unfolding refusal
   reading-refusal-said k e =
@@ -120,6 +122,7 @@ module _ (s : List ℕ) (room : ℕ) where
       after-within s _ (λ m n e. asked-within (question7 m k) 7 _ (omega arith) (omega arith)
       (ninth-within s room (end .set) (end .cost) (end .moves) m n e (limited-moves s m n e k)))
 
+  -- so every caller of pricing and of the plans reads the call's answer off its number
   pub pricing-said : (set : ℕ) → Said (answer (pricing s set room))
   pricing-said set = said (answer (pricing s set room)) (pricing-within set)
 

@@ -98,10 +98,10 @@ fn bytes(file: &str) -> Result<Vec<u8>, Said> {
 }
 
 fn number(word: &str) -> Result<usize, Said> {
-    word.parse().map_err(|_| unusable(&format!("{word} is not a number\n")))
+    word.parse().map_err(|_| unusable(&format!("{word} is not a whole number from 0 up\n")))
 }
 
-/// The set with a bit for each yard. It has no room for other yards than these, on whatever sheet.
+/// The set with a bit for each yard. It has room for yards 0 to 31, on whatever sheet.
 fn set(yards: &[&str]) -> Result<u32, Said> {
     yards.iter().try_fold(0, |set, word| match number(word)? {
         yard if yard < u32::BITS as usize => Ok(set | 1 << yard),
@@ -119,6 +119,9 @@ fn unusable(text: &str) -> Said {
 fn print(mut to: impl Write, said: Said) -> u8 {
     match to.write_all(said.text.as_bytes()).and_then(|()| to.flush()) {
         Ok(()) => said.status,
-        Err(_) => UNUSABLE,
+        Err(error) => {
+            eprintln!("the result cannot be written: {error}");
+            UNUSABLE
+        }
     }
 }

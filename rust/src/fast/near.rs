@@ -24,6 +24,7 @@ impl Yards {
         self.count
     }
 
+    /// The remainder changes nothing; it tells the compiler that a yard is an index of a row.
     pub fn iter(&self) -> impl Iterator<Item = usize> + '_ {
         self.list[..self.count].iter().map(|&yard| usize::from(yard) % MOST_YARDS)
     }
@@ -78,7 +79,8 @@ impl Near {
         Near { first: self.first.min(haul), second: self.second.min(self.first.max(haul)) }
     }
 
-    /// Whether one of the two goes to a yard of this set.
+    /// Whether one of the two goes to a yard of this set. To a set of one yard the second names the last yard though it is not
+    /// open: then the farm is only looked at once more.
     pub fn goes_to(self, set: u32) -> bool {
         (set >> self.first.yard() | set >> self.second.yard()) & 1 == 1
     }

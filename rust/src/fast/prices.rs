@@ -116,7 +116,8 @@ impl Choice {
         }
     }
 
-    /// A cost for each yard, all too high by `saved`. Most rows have none that is lower, which a vector tells at once.
+    /// A cost for each yard, all too high by `saved`. Most rows have none that is lower, which vector instructions
+    /// show without a look at each.
     fn offer_row(&mut self, costs: &Amounts, saved: u32, set: impl Fn(usize) -> u32) {
         let bound = self.cost + saved;
         if costs.iter().fold(false, |lower, &cost| lower | (cost < bound)) {

@@ -8,9 +8,11 @@ mod search;
 mod tests;
 
 use crate::{Answer, Counts, Written};
-use questions::{ask, ask_1_to_4, ask_1_to_6, question_7, question_8, question_9};
+use questions::{ask, ask_1_to_4, question_7, question_8, question_9};
 use search::Settled;
 
+pub use haul_sheet::HaulSheet;
+pub use questions::ask_1_to_6;
 pub use search::Move;
 
 /// Reading asks 1 to 6 and returns m and n.
@@ -32,16 +34,26 @@ pub fn price(sheet: &[u8], set: u32, area: &mut [u8]) -> Answer<Written> {
     let sheet = ask_1_to_6(sheet)?;
     ask(8, question_8(&sheet, set))?;
     ask(9, question_9(&sheet, area))?;
+    Ok(price_of(&sheet, set, area))
+}
+
+/// Pricing once its questions are answered yes.
+pub fn price_of(sheet: &HaulSheet, set: u32, area: &mut [u8]) -> Written {
     let priced = Settled { set, moves: Vec::new() };
-    Ok(plan_area::write(&sheet, &priced, sheet.full_cost(set), area))
+    plan_area::write(sheet, &priced, sheet.full_cost(set), area)
 }
 
 /// An open plan asks 1 to 6 and 9.
 pub fn open_plan(sheet: &[u8], area: &mut [u8]) -> Answer<Written> {
     let sheet = ask_1_to_6(sheet)?;
     ask(9, question_9(&sheet, area))?;
-    let settled = search::open_plan(&sheet);
-    Ok(plan_area::write(&sheet, &settled, sheet.full_cost(settled.set), area))
+    Ok(open_plan_of(&sheet, area))
+}
+
+/// An open plan once its questions are answered yes.
+pub fn open_plan_of(sheet: &HaulSheet, area: &mut [u8]) -> Written {
+    let settled = search::open_plan(sheet);
+    plan_area::write(sheet, &settled, sheet.full_cost(settled.set), area)
 }
 
 /// A limited plan asks 1 to 6, 7 and 9.
@@ -49,8 +61,13 @@ pub fn limited_plan(sheet: &[u8], k: usize, area: &mut [u8]) -> Answer<Written> 
     let sheet = ask_1_to_6(sheet)?;
     ask(7, question_7(&sheet, k))?;
     ask(9, question_9(&sheet, area))?;
-    let settled = search::limited_plan(&sheet, k);
-    Ok(plan_area::write(&sheet, &settled, sheet.haul_cost(settled.set), area))
+    Ok(limited_plan_of(&sheet, k, area))
+}
+
+/// A limited plan once its questions are answered yes.
+pub fn limited_plan_of(sheet: &HaulSheet, k: usize, area: &mut [u8]) -> Written {
+    let settled = search::limited_plan(sheet, k);
+    plan_area::write(sheet, &settled, sheet.haul_cost(settled.set), area)
 }
 
 /// The moves of the open plan, first to last; none where reading refuses the sheet.

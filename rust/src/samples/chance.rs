@@ -1,4 +1,4 @@
-//! Sheets damaged by chance: what reading answers is left to the programs compared.
+//! Sheets damaged by chance: what reading answers is left to the implementations compared.
 use super::good_form::accepted;
 use super::{below, Sample};
 use crate::format::{record, HAUL, RECORD, YARD};

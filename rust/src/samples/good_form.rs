@@ -1,5 +1,5 @@
 //! Sheets of good form: accepted ones, and ones whose amounts or hauls may be refused.
-use super::tables::{from_lists, manhattan, plane, repair, small_amounts, within_threefold};
+use super::tables::{between, from_lists, manhattan, plane, repair, small_amounts, within_threefold};
 use super::Sample;
 use crate::format::{HIGHEST_FEE, HIGHEST_HAUL};
 use crate::random::Random;
@@ -71,10 +71,7 @@ fn one_tight_choice(random: &mut Random, yards: usize, farms: usize, a_below_b: 
         1 => highest_low,
         _ => random.between(2, highest_low.into()) as u32,
     };
-    let mut table = within_threefold(random, yards, farms, low, HIGHEST_FEE);
-    for haul in table.hauls.iter_mut().flatten() {
-        *haul = random.between(u64::from(low) + 1, u64::from(2 * low)) as u32;
-    }
+    let mut table = between(random, yards, farms, low + 1, 2 * low, HIGHEST_FEE);
     (table.hauls[p][a], table.hauls[p][b], table.hauls[q][b]) = (low, low, low);
     table.hauls[q][a] = 3 * low + over;
     table

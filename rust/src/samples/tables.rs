@@ -39,7 +39,11 @@ pub fn small_amounts(random: &mut Random, yards: usize, farms: usize, highest: u
 
 /// Hauls from `low` to three times `low`, which keeps question 6 whatever the places are.
 pub fn within_threefold(random: &mut Random, yards: usize, farms: usize, low: u32, highest_fee: u32) -> Table {
-    let high = (3 * low).min(HIGHEST_HAUL);
+    between(random, yards, farms, low, (3 * low).min(HIGHEST_HAUL), highest_fee)
+}
+
+/// Hauls from `low` to `high`.
+pub fn between(random: &mut Random, yards: usize, farms: usize, low: u32, high: u32, highest_fee: u32) -> Table {
     let hauls = table_of(farms, yards, |_, _| random.between(low.into(), high.into()) as u32);
     Table { fees: amounts(random, yards, 0, highest_fee), hauls }
 }

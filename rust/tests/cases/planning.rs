@@ -32,7 +32,7 @@ fn limited_case(calls: &Calls, name: &str, sheet: &[u8], k: usize, room: usize) 
 
 fn plan_case(calls: &Calls, name: &str, sheet: &[u8], call: PlanCall, room: usize) -> String {
     let mut area = vec![PATTERN; room];
-    let answer = call.made(calls, sheet, &mut area);
+    let answer = call.put_to(calls, sheet, &mut area);
     answer_line(name, answer, &area)
 }
 

@@ -1,4 +1,4 @@
-//! Every call on one sheet: the proved library against the other programs, area and all, byte for byte.
+//! Every call on one sheet: the proved library against the other implementations, area and all, byte for byte.
 mod tally;
 
 use planner::calls::{Calls, PlanCall, FAST, LIBRARY, LITERAL};
@@ -8,10 +8,10 @@ use planner::samples::Sample;
 use planner::{library, literal, Answer, Counts};
 pub use tally::{Name, Tally};
 
-/// `fast` is among them so that the benchmark compares like with like.
+/// `fast` is among them so that the benchmark's times are those of the same answers.
 const OTHERS: [Calls; 2] = [LITERAL, FAST];
-/// Sheets with more hauls than this get a choice of sets, counts, areas and bytes only.
-const MANY_HAULS: usize = 300;
+/// Sheets with more records than this get a choice of sets, counts, areas and bytes only.
+const MANY_RECORDS: usize = 300;
 const CHOICE: usize = 3;
 /// Bytes before and behind the lent area, which no call may touch.
 const MARGIN: usize = 24;
@@ -43,8 +43,8 @@ impl Comparison<'_> {
     fn reading(&mut self) -> Answer<Counts> {
         let sheet = &self.sample.sheet;
         let answer = library::read(sheet);
-        for program in &OTHERS {
-            let (name, other) = (program.name, (program.read)(sheet));
+        for calls in &OTHERS {
+            let (name, other) = (calls.name, (calls.read)(sheet));
             assert!(answer == other, "read: library {answer:?}, {name} {other:?}; {}", self.sheet());
         }
         if let Some(made) = self.sample.reading {
@@ -62,7 +62,7 @@ impl Comparison<'_> {
             let length = library::farm_len(&self.sample.sheet, farm);
             assert!(length == other.len(), "farm_len {farm}: {length}, literal {}; {}", other.len(), self.sheet());
             self.tally.stretch(length);
-            let step = if self.sample.sheet.len() > RECORD * MANY_HAULS { 29 } else { 1 };
+            let step = if self.large() { 29 } else { 1 };
             for at in (0..length + RECORD).step_by(step).chain([length, 1 << 32, usize::MAX]) {
                 let expected = other.get(at).copied().unwrap_or(0);
                 let byte = library::farm_byte(&self.sample.sheet, farm, at);
@@ -89,7 +89,7 @@ impl Comparison<'_> {
     /// Calls on an accepted sheet.
     fn plans(&mut self, counts: Counts) {
         let enough = least_area(counts.yards, counts.farms);
-        let large = counts.yards * counts.farms > MANY_HAULS;
+        let large = self.large();
         for call in self.calls(counts.yards, large) {
             let written = self.plan(call, enough);
             let mut lengths = vec![enough - 1, enough + 1, enough + self.random.between(2, 99) as usize, 0];
@@ -122,18 +122,18 @@ impl Comparison<'_> {
         calls
     }
 
-    /// One call with an area of the given length, filled with random bytes before: the library's against each other program's.
+    /// One call with an area of the given length, filled with random bytes before: the library's against each other implementation's.
     /// Gives the bytes written, if the call is accepted.
     fn plan(&mut self, call: PlanCall, length: usize) -> Option<usize> {
         let pattern: Vec<u8> = (0..length + 2 * MARGIN).map(|_| self.random.draw() as u8).collect();
         let lent = MARGIN..MARGIN + length;
         let mut area = pattern.clone();
-        let answer = call.made(&LIBRARY, &self.sample.sheet, &mut area[lent.clone()]);
+        let answer = call.put_to(&LIBRARY, &self.sample.sheet, &mut area[lent.clone()]);
         let ours = || format!("{call:?} with an area of {length} bytes: library {answer:?}");
-        for program in &OTHERS {
+        for calls in &OTHERS {
             let mut other_area = pattern.clone();
-            let other = call.made(program, &self.sample.sheet, &mut other_area[lent.clone()]);
-            let (name, difference) = (program.name, first_difference(&area, &other_area));
+            let other = call.put_to(calls, &self.sample.sheet, &mut other_area[lent.clone()]);
+            let (name, difference) = (calls.name, first_difference(&area, &other_area));
             let same = answer == other && difference.is_none();
             assert!(same, "{}, {name} {other:?}; {difference:?}; {}", ours(), self.sheet());
         }
@@ -145,6 +145,10 @@ impl Comparison<'_> {
         assert!(difference.is_none(), "{}; not as before the call: {difference:?}; {}", ours(), self.sheet());
         self.tally.answer(Name::of(call), answer.err());
         written
+    }
+
+    fn large(&self) -> bool {
+        self.sample.sheet.len() > RECORD * MANY_RECORDS
     }
 
     fn some_of<T: Copy>(&mut self, count: usize, list: Vec<T>) -> Vec<T> {

@@ -1,8 +1,8 @@
 //! The calls that are timed, put to each implementation.
-use planner::calls::{Calls, PlanCall, ALL, FAST};
+use planner::calls::{Calls, PlanCall, ALL, FAST, LIBRARY};
 use planner::format::MOST_AREA;
 use planner::samples::Sample;
-use planner::{fast, Answer, Counts, Written};
+use planner::{fast, literal, Answer, Counts, Written};
 
 /// Every second yard.
 const SIXTEEN_YARDS: u32 = 0x5555_5555;
@@ -36,16 +36,25 @@ impl Call {
         }
     }
 
-    pub fn made(self, calls: &Calls, sheet: &[u8], area: &mut [u8]) -> Outcome {
+    pub fn put_to(self, calls: &Calls, sheet: &[u8], area: &mut [u8]) -> Outcome {
         match self {
             Call::Read => Outcome::Counts((calls.read)(sheet)),
-            Call::Plan(call) => Outcome::Written(call.made(calls, sheet, area)),
+            Call::Plan(call) => Outcome::Written(call.put_to(calls, sheet, area)),
         }
     }
 }
 
+/// What literal does for a call on a sheet already read.
+pub fn literal_after_reading(call: PlanCall, sheet: &literal::HaulSheet, area: &mut [u8]) -> Written {
+    match call {
+        PlanCall::Price { set } => literal::price_of(sheet, set, area),
+        PlanCall::OpenPlan => literal::open_plan_of(sheet, area),
+        PlanCall::LimitedPlan { k } => literal::limited_plan_of(sheet, k, area),
+    }
+}
+
 /// What fast does for a call on a table already read.
-pub fn after_reading(call: PlanCall, hauls: &fast::Hauls, area: &mut [u8]) -> Written {
+pub fn fast_after_reading(call: PlanCall, hauls: &fast::Hauls, area: &mut [u8]) -> Written {
     match call {
         PlanCall::Price { set } => fast::price_of(hauls, set, area),
         PlanCall::OpenPlan => fast::open_plan_of(hauls, area),
@@ -55,24 +64,23 @@ pub fn after_reading(call: PlanCall, hauls: &fast::Hauls, area: &mut [u8]) -> Wr
 
 /// The three implementations must accept the sheet, and give the same outcome and area.
 pub fn compare(call: Call, input: &Sample) -> Result<(), String> {
-    let [ours, literal, fast] = ALL.each_ref().map(|calls| {
+    let given = |calls: &Calls| {
         let mut area = [0xA5; MOST_AREA];
-        (call.made(calls, &input.sheet, &mut area), area)
-    });
-    if let Outcome::Counts(Err(number)) | Outcome::Written(Err(number)) = literal.0 {
+        (call.put_to(calls, &input.sheet, &mut area), area)
+    };
+    let library = given(&LIBRARY);
+    if let Outcome::Counts(Err(number)) | Outcome::Written(Err(number)) = library.0 {
         return Err(format!("{} of {} is refused: {number}", call.name(), input.name));
     }
-    for (name, other) in [("ours", ours), ("fast", fast)] {
-        if other != literal {
-            return Err(format!("{} of {}: {name} and literal differ", call.name(), input.name));
-        }
+    match ALL.iter().find(|calls| given(calls) != library) {
+        Some(other) => Err(format!("{} of {}: library and {} differ", call.name(), input.name, other.name)),
+        None => Ok(()),
     }
-    Ok(())
 }
 
 /// What all three write for a call that was compared.
 pub fn plan(call: Call, input: &Sample) -> Written {
-    match call.made(&FAST, &input.sheet, &mut [0; MOST_AREA]) {
+    match call.put_to(&FAST, &input.sheet, &mut [0; MOST_AREA]) {
         Outcome::Written(Ok(written)) => written,
         refused => unreachable!("{refused:?}"),
     }

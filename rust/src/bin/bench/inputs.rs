@@ -5,16 +5,16 @@ use planner::samples::{self, Sample};
 
 /// The side of the square that yards and farms lie in, in cents of haul.
 pub const SPAN: u32 = 700_000;
-/// With the first as the highest fee open plans have some 4 to 12 yards; with the second more yards, by many moves.
-const LIFELIKE_FEE: u32 = 3_000_000;
+/// With high fees open plans have few yards, with low ones many, by many moves.
+const HIGH_FEE: u32 = 3_000_000;
 const LOW_FEE: u32 = 300_000;
-const LIFELIKE_SEEDS: [u64; 4] = [1, 2, 3, 4];
+const HIGH_FEE_SEEDS: [u64; 4] = [1, 2, 3, 4];
 const LOW_FEE_SEEDS: [u64; 3] = [5, 6, 7];
 
 pub fn full_sheets() -> Vec<Sample> {
-    let lifelike = LIFELIKE_SEEDS.map(|seed| (seed, LIFELIKE_FEE));
+    let high_fees = HIGH_FEE_SEEDS.map(|seed| (seed, HIGH_FEE));
     let low_fees = LOW_FEE_SEEDS.map(|seed| (seed, LOW_FEE));
-    let sheets = lifelike.into_iter().chain(low_fees);
+    let sheets = high_fees.into_iter().chain(low_fees);
     sheets.map(|(seed, fee)| full_sheet(seed, fee)).collect()
 }
 

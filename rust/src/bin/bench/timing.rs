@@ -1,14 +1,17 @@
 //! The least times of calls, where calls and implementations take turns.
-use crate::calls::{after_reading, Call};
+use crate::calls::{fast_after_reading, literal_after_reading, Call};
 use planner::calls::ALL;
 use planner::fast::Hauls;
 use planner::format::MOST_AREA;
+use planner::literal::{ask_1_to_6, HaulSheet};
 use planner::samples::Sample;
 use std::hint::black_box;
 use std::time::{Duration, Instant};
 
-/// In each round every call of every implementation has one turn, and is made again and again for this long, at least once.
-pub const ROUNDS: usize = 14;
+/// In each round every call of every implementation has one turn, in which it is made so often at least, and again and again
+/// until the turn is over.
+pub const ROUNDS: usize = 6;
+pub const LEAST_IN_A_TURN: usize = 4;
 const TURN: Duration = Duration::from_millis(3);
 /// Shorter calls are timed several together.
 const SHORTEST_TIMED: Duration = Duration::from_micros(20);
@@ -20,43 +23,49 @@ pub type Three = [f64; 3];
 #[derive(Clone, Copy)]
 pub struct Times {
     pub whole: Three,
-    /// Of fast on a table already read; of reading itself there is none.
+    /// On a sheet already read; of reading itself there is none.
+    pub literal_after_reading: f64,
     pub fast_after_reading: f64,
 }
 
-const UNTIMED: Times = Times { whole: [f64::INFINITY; 3], fast_after_reading: f64::INFINITY };
+const UNTIMED: Times =
+    Times { whole: [f64::INFINITY; 3], literal_after_reading: f64::INFINITY, fast_after_reading: f64::INFINITY };
 
 pub fn time<const COUNT: usize>(calls: [Call; COUNT], input: &Sample) -> [Times; COUNT] {
-    let hauls = read_table(input);
+    let (sheet, hauls) = already_read(input).unwrap_or_else(|number| unreachable!("{}: {number}", input.name));
     let mut times = [UNTIMED; COUNT];
     for _ in 0..ROUNDS {
         for (&call, least) in calls.iter().zip(&mut times) {
             for (calls, least) in ALL.iter().zip(&mut least.whole) {
-                *least = least.min(turn(|area| call.made(calls, black_box(&input.sheet), area)));
+                *least = least.min(turn(|area| call.put_to(calls, black_box(&input.sheet), area)));
             }
             if let Call::Plan(call) = call {
-                let time = turn(|area| after_reading(call, black_box(&hauls), area));
-                least.fast_after_reading = least.fast_after_reading.min(time);
+                let literal = turn(|area| literal_after_reading(call, black_box(&sheet), area));
+                least.literal_after_reading = least.literal_after_reading.min(literal);
+                let fast = turn(|area| fast_after_reading(call, black_box(&hauls), area));
+                least.fast_after_reading = least.fast_after_reading.min(fast);
             }
         }
     }
     times
 }
 
-/// The table of a sheet that was compared.
-fn read_table(input: &Sample) -> Hauls {
+/// A sheet that was compared, as literal and as fast read it.
+fn already_read(input: &Sample) -> planner::Answer<(HaulSheet, Hauls)> {
     let mut hauls = Hauls::none();
-    hauls.read(&input.sheet).unwrap_or_else(|number| unreachable!("{} is refused: {number}", input.name));
-    hauls
+    hauls.read(&input.sheet)?;
+    Ok((ask_1_to_6(&input.sheet)?, hauls))
 }
 
-/// The least time of one call, from calls until the turn is over.
+/// The least time of one call in a turn.
 fn turn<T>(call: impl Fn(&mut [u8]) -> T) -> f64 {
     let start = Instant::now();
-    let first = together(1, &call);
-    let count = (SHORTEST_TIMED.as_secs_f64() * 1e6 / first).ceil() as usize;
-    let mut least = first;
-    while start.elapsed() < TURN {
+    let mut least = together(1, &call);
+    let count = (SHORTEST_TIMED.as_secs_f64() * 1e6 / least).ceil() as usize;
+    for made in 1.. {
+        if made >= LEAST_IN_A_TURN && start.elapsed() >= TURN {
+            break;
+        }
         least = least.min(together(count, &call));
     }
     least

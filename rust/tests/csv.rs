@@ -1,0 +1,93 @@
+//! Tables as spreadsheets save them: how they are read, and where their faults are told.
+use planner::csv;
+use planner::table::Table;
+
+const TYPED: &str = include_str!("../../sheets/s.csv");
+
+#[test]
+fn a_table_is_read_however_a_spreadsheet_saves_it() {
+    let quoted = r#""cents","North, ""old""",Middle,South
+Fee,1,4,"2"
+Hill,1, 3 ,9
+ "Mill" ,5,1,5
+Läke,9,5,1
+
+"#;
+    for text in [
+        TYPED.to_string(),
+        TYPED.trim_end().to_string(),
+        TYPED.replace('\n', "\r\n"),
+        TYPED.replace(',', ";"),
+        format!("\u{FEFF}{TYPED}"),
+        quoted.to_string(),
+    ] {
+        assert_eq!(csv::read(text.as_bytes()).unwrap().table, Table::s(), "{text}");
+    }
+    let names = csv::read(quoted.as_bytes()).unwrap().names;
+    assert_eq!(names.yards, ["North, \"old\"", "Middle", "South"]);
+    assert_eq!(names.farms, ["Hill", "Mill", "Läke"]);
+}
+
+fn assert_table_fault(file: &[u8], line: usize, column: usize, part: &str) {
+    let fault = csv::read(file).unwrap_err();
+    assert_eq!((fault.line, fault.column), (line, column), "{part}, in: {}", fault.words);
+    assert!(fault.words.contains(part), "{part}, in: {}", fault.words);
+}
+
+#[test]
+fn every_fault_of_a_table_is_told_with_line_and_column() {
+    let head = "cents,A,B\nfee,1,2\n";
+    let wide = format!("cents{}\n", (0..33).map(|yard| format!(",Y{yard}")).collect::<String>());
+    let long = format!("cents,A\nfee,1\n{}", (0..129).map(|farm| format!("F{farm},1\n")).collect::<String>());
+    let cases = [
+        (String::new(), 1, 1, "the line is empty"),
+        ("euros,A\nfee,1\nF,1\n".into(), 1, 1, "the word cents"),
+        ("cents\nfee\nF\n".into(), 1, 2, "there is no yard"),
+        ("cents,A,,C\nfee,1,2,3\nF,1,2,3\n".into(), 1, 3, "the name of the yard is missing"),
+        ("cents,A,B,A\nfee,1,2,3\nF,1,2,3\n".into(), 1, 4, "another yard is called A too"),
+        (format!("{head}F,1,2\nG,1,2\nF,1,2\n"), 5, 1, "another farm is called F too"),
+        (wide, 1, 34, "at most 32 yards (question 3)"),
+        ("cents,A\n".into(), 2, 1, "the line of fees is missing"),
+        ("cents,A\nF,1\n".into(), 2, 1, "the word fee"),
+        (head.into(), 3, 1, "there is no farm"),
+        (long, 131, 1, "at most 128 farms (question 4)"),
+        (format!("{head},1,2\n"), 3, 1, "the name of the farm is missing"),
+        (format!("{head}F,1\n"), 3, 3, "under yard B: the amount is missing"),
+        (format!("{head}F,,2\n"), 3, 2, "under yard A: the amount is missing"),
+        (format!("{head}F,1,2,3\n"), 3, 4, "line 1 names no yard above this cell"),
+        (format!("{head}F,1,12.50\n"), 3, 3, "'12.50' is no whole number of cents"),
+        (format!("{head}F,\"12,50\",2\n"), 3, 2, "'12,50' is no whole number of cents"),
+        (format!("{head}F,-1,2\n"), 3, 2, "'-1' is no whole number of cents"),
+        (format!("{head}F,+1,2\n"), 3, 2, "'+1' is no whole number of cents"),
+        (
+            format!("{head}F,1,4294967296\n"),
+            3,
+            3,
+            "4294967296 is more than the four bytes of an amount hold, 4294967295",
+        ),
+    ];
+    for (text, line, column, part) in cases {
+        assert_table_fault(text.as_bytes(), line, column, part);
+    }
+    assert_table_fault(b"cents,A,M\xFChle\nfee,1,2\nF,1,2\n", 1, 3, "not UTF-8");
+}
+
+#[test]
+fn empty_lines_and_faulty_quotes_are_told_with_line_and_column() {
+    let head = "cents,A,B\nfee,1,2\n";
+    let cases = [
+        (format!("{head}\nF,1,2\n"), 3, 1, "the line is empty"),
+        (format!("{head}F,1,2\n \r\nG,1,2\n"), 4, 1, "the line is empty"),
+        (format!("{head}\"F,1,2\n"), 3, 1, "the closing quote is missing"),
+        (format!("{head}F,\"1\"0,2\n"), 3, 2, "text follows the closing quote"),
+        (format!("{head}F,1\"0,2\n"), 3, 2, "a quote stands inside a cell"),
+    ];
+    for (text, line, column, part) in cases {
+        assert_table_fault(text.as_bytes(), line, column, part);
+    }
+}
+
+#[test]
+fn the_largest_amount_of_four_bytes_is_read() {
+    assert_eq!(csv::read(b"cents,A\nfee,0\nF,4294967295\n").unwrap().table.hauls, [[u32::MAX]]);
+}
