@@ -10,7 +10,7 @@ use Rattle.model.proofs.CountLaws.{count-le}
 use Rattle.sheet.specs.Answers.{Answer, accepted, refused, ask, after}
 use Rattle.sheet.specs.Sheet.{instanceOf}
 use Rattle.sheet.specs.Reading.{Counts, counts, reading}
-use Rattle.sheet.proofs.ReadingLaws.{FirstNo, by-1, by-2, by-3, by-4, by-5, by-6, refused-when}
+use Rattle.sheet.proofs.ReadingLaws.{refused-by}
 use Rattle.sheet.proofs.AcceptedLaws.{WithinBounds, instance-is, door, accepts}
 use Rattle.price.specs.Plan.{question9, planSet}
 use Rattle.price.specs.Pricing.{Result, Plan, plan, meaning, answer, question8, pricing}
@@ -39,15 +39,6 @@ said (refused k) (some, small) = (omega arith, some)
 
 -- ---- reading
 
--- reading refuses by a number from 1 to 6
-read-refusal : (s : List ℕ) (k : ℕ) → FirstNo s k → (1 ≤ k) × (k ≤ 6)
-read-refusal s k (by-1 a) = (omega arith, omega arith)
-read-refusal s k (by-2 a b) = (omega arith, omega arith)
-read-refusal s k (by-3 a b c) = (omega arith, omega arith)
-read-refusal s k (by-4 a b c d) = (omega arith, omega arith)
-read-refusal s k (by-5 y a) = (omega arith, omega arith)
-read-refusal s k (by-6 y a b) = (omega arith, omega arith)
-
 module _ (s : List ℕ) where
   -- off the number of an accepted reading: no refusal, m and n
   pub counts-said : (m n : ℕ) → reading s ≡ accepted (counts m n) → (refusal (countsNumber (reading s)) ≡ 0)
@@ -61,7 +52,7 @@ module _ (s : List ℕ) where
   pub reading-refusal-said : (k : ℕ) → reading s ≡ refused k → (refusal (countsNumber (reading s)) ≡ k) × (1 ≤ k)
   unfolding refusal
   reading-refusal-said k e =
-      let l = read-refusal s k (refused-when s k e) in
+      let l = refused-by s k e in
       (rw e (omega (arith, l .1)), l .0)
 
 -- ---- the answers of pricing and of the plans keep to their bits
@@ -78,7 +69,7 @@ after-within s f h = go (reading s) refl
   where
     go : (r : Answer Counts) → reading s ≡ r → Within (answer (after r f))
     go (accepted c) e = h (c .yards) (c .farms) e
-    go (refused k) e = let l = read-refusal s k (refused-when s k e) in (l .0, omega (arith, l .1))
+    go (refused k) e = let l = refused-by s k e in (l .0, omega (arith, l .1))
 
 -- the plan of an accepted sheet has fewer than 2^24 bytes
 plan-within : (I : Instance) (set total moves : ℕ) → WithinBounds I → moves < 2 ^ 32 → Within (answer (accepted (plan I set total moves)))

@@ -1,5 +1,5 @@
 -- Laws of reading: each refusal number comes exactly when its question is the first that is answered no.
-use Prim.Native.Nat.{ℕ}
+use Prim.Native.Nat.{ℕ, _≤_}
 use native.Mathlib.Omega.{arith}
 use mathlib.Core.Path.{_≡_, refl, sym, ap, subst, _∙_}
 use mathlib.Core.Logic.{_⊎_, inl, inr}
@@ -116,6 +116,18 @@ module _ (s : List ℕ) where
         | inl y ↦ absurd (apart (sym (when-accepted y) ∙ h))
         | inr f ↦ subst (FirstNo s) (same-number (sym (when-refused (f .0) (f .1)) ∙ h)) (f .1)
       ]
+
+  -- reading refuses by a number from 1 to 6
+  pub refused-by : (k : ℕ) → reading s ≡ refused k → (1 ≤ k) × (k ≤ 6)
+  refused-by k h = go k (refused-when k h)
+    where
+      go : (j : ℕ) → FirstNo s j → (1 ≤ j) × (j ≤ 6)
+      go j (by-1 a) = (omega arith, omega arith)
+      go j (by-2 a b) = (omega arith, omega arith)
+      go j (by-3 a b c) = (omega arith, omega arith)
+      go j (by-4 a b c d) = (omega arith, omega arith)
+      go j (by-5 y a) = (omega arith, omega arith)
+      go j (by-6 y a b) = (omega arith, omega arith)
 
   pub accepted-when : (m n : ℕ) → reading s ≡ accepted (counts m n) → AllYes s × (yards s ≡ m) × (farms s ≡ n)
   accepted-when m n h =
