@@ -15,7 +15,7 @@ pub fn plane(random: &mut Random, yards: usize, farms: usize, span: u32, highest
         let noise = random.between(0, (span / NOISE_PART).into());
         (distance(farm_points[farm], yard_points[yard]) + noise).min(HIGHEST_HAUL.into()) as u32
     });
-    let mut table = Table { fees: amounts(random, yards, 0, highest_fee.min(HIGHEST_FEE)), hauls };
+    let mut table = Table { fees: fees(random, yards, highest_fee.min(HIGHEST_FEE)), hauls };
     repair(&mut table);
     table
 }
@@ -28,13 +28,12 @@ pub fn manhattan(random: &mut Random, yards: usize, farms: usize, side: u32, hig
         let ((x, y), (u, v)) = (farm_points[farm], yard_points[yard]);
         x.abs_diff(u) + y.abs_diff(v)
     });
-    Table { fees: amounts(random, yards, 0, highest_fee), hauls }
+    Table { fees: fees(random, yards, highest_fee), hauls }
 }
 
 /// Every amount from 0 to `highest`: many equal costs, and question 6 often broken.
 pub fn small_amounts(random: &mut Random, yards: usize, farms: usize, highest: u32) -> Table {
-    let hauls = table_of(farms, yards, |_, _| random.between(0, highest.into()) as u32);
-    Table { fees: amounts(random, yards, 0, highest), hauls }
+    between(random, yards, farms, 0, highest, highest)
 }
 
 /// Hauls from `low` to three times `low`, which keeps question 6 whatever the places are.
@@ -42,10 +41,10 @@ pub fn within_threefold(random: &mut Random, yards: usize, farms: usize, low: u3
     between(random, yards, farms, low, (3 * low).min(HIGHEST_HAUL), highest_fee)
 }
 
-/// Hauls from `low` to `high`.
+/// Hauls from `low` to `high`, fees up to `highest_fee`.
 pub fn between(random: &mut Random, yards: usize, farms: usize, low: u32, high: u32, highest_fee: u32) -> Table {
     let hauls = table_of(farms, yards, |_, _| random.between(low.into(), high.into()) as u32);
-    Table { fees: amounts(random, yards, 0, highest_fee), hauls }
+    Table { fees: fees(random, yards, highest_fee), hauls }
 }
 
 /// Each fee one of `fees`, each haul one of `hauls`.
@@ -91,8 +90,8 @@ fn distance((x, y): (u32, u32), (u, v): (u32, u32)) -> u64 {
     (across * across + up * up).sqrt().round() as u64
 }
 
-fn amounts(random: &mut Random, count: usize, low: u32, high: u32) -> Vec<u32> {
-    (0..count).map(|_| random.between(low.into(), high.into()) as u32).collect()
+fn fees(random: &mut Random, yards: usize, highest: u32) -> Vec<u32> {
+    (0..yards).map(|_| random.between(0, highest.into()) as u32).collect()
 }
 
 fn one_of(random: &mut Random, list: &[u32]) -> u32 {
