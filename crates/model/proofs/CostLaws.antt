@@ -1,14 +1,18 @@
 -- Laws of the costs, for callers who need not open them: the nearest facility, sets that agree, metric service costs.
 use Prim.Native.Nat.{ℕ, _+_, _*_, _≤_, _<_}
 use native.Mathlib.Nat.{one-mul, mul-le-mul-left}
+use native.Mathlib.Omega.{arith}
 use mathlib.Core.Path.{_≡_, sym, ap, ap₂, _∙_}
-use mathlib.Core.Bool.{Bool, true, false}
+use mathlib.Core.Bool.{Bool, true, false, not, and-false}
 use borrow.Author.Tests.{leb-true, leb-false, le-leb, lt-leb}
+use lib.Dec.{eqb}
 use Rattle.model.specs.Loops.{on, sum}
 use Rattle.model.specs.Least.{any, least}
+use Rattle.model.specs.Sets.{plus, minus, trade}
 use Rattle.model.specs.Instance.{Instance, fourPoint, fourPointQ, fourPointPQ, fourPointBPQ, metric, Breaks, nearest, assigned, openingCost, serviceCost, totalCost}
 use Rattle.model.proofs.LoopLaws.{all-at, all-from, all-fails, all-stops}
 use Rattle.model.proofs.SumLaws.{sum-mono, sum-cong}
+use Rattle.model.proofs.CountLaws.{sum-plus, sum-minus}
 use Rattle.model.proofs.LeastLaws.{Least, arg-least, arg-cong, least-at, least-le, least-cong, least-values, least-scaled}
 
 module _ (I : Instance) where
@@ -90,6 +94,21 @@ module _ (I : Instance) where
   pub service-once : ((j : ℕ) → weight j ≡ 1) → (S : ℕ → Bool) → sum n (nearest I S) ≡ serviceCost I S
   unfolding serviceCost
   service-once once S = sum-cong n (λ j l. sym (ap (λ w. w * nearest I S j) (once j) ∙ one-mul (nearest I S j)))
+
+  -- ---- opening costs with a facility more, with one less, with one for another
+
+  pub opening-plus : (S : ℕ → Bool) (i : ℕ) → i < m → S i ≡ false → openingCost I (plus S i) ≡ openingCost I S + opening i
+  unfolding openingCost
+  opening-plus S i l e = sum-plus m i S opening l e
+
+  pub opening-minus : (S : ℕ → Bool) (o : ℕ) → o < m → S o ≡ true → openingCost I (minus S o) + opening o ≡ openingCost I S
+  unfolding openingCost
+  opening-minus S o l e = sum-minus m o S opening l e
+
+  pub opening-trade : (S : ℕ → Bool) (o i : ℕ) → o < m → S o ≡ true → i < m → S i ≡ false
+      → openingCost I (trade S o i) + opening o ≡ openingCost I S + opening i
+  opening-trade S o i lo eo li ei =
+      omega (arith, opening-plus (minus S o) i li (rw ei (and-false (not (eqb o i)))), opening-minus S o lo eo)
 
   -- ---- sets that agree on the facilities cost the same
 

@@ -94,6 +94,16 @@ sum-plus-le m o S w l =
       sum-one m o w l,
     )
 
+-- what a set sums to with one more member
+pub sum-plus : (m o : ℕ) (S : ℕ → Bool) (w : ℕ → ℕ) → o < m → S o ≡ false → sumOn m (plus S o) w ≡ sumOn m S w + w o
+sum-plus m o S w l e =
+    sum-cong m (λ i h. at i (eqb o i) (test o i))
+    ∙ (sum-add m (λ i. on (S i) (w i)) (λ i. on (eqb o i) (w i)) ∙ ap (λ x. sumOn m S w + x) (sum-one m o w l))
+  where
+    at : (i : ℕ) (b : Bool) → Eq? o i b → on (b || S i) (w i) ≡ on (S i) (w i) + on b (w i)
+    at i true (same q) = rw (sym (ap S q) ∙ e) (omega arith)
+    at i false (diff q) = omega arith
+
 -- what a set sums to without one of its members
 pub sum-minus : (m f : ℕ) (S : ℕ → Bool) (w : ℕ → ℕ) → f < m → S f ≡ true
     → sumOn m (minus S f) w + w f ≡ sumOn m S w

@@ -5,7 +5,10 @@ pub mod TestSetLaws
 pub mod CountLaws
 pub mod ListingLaws
 pub mod LeastLaws
+pub mod GapLaws
+pub mod TwoLeastLaws
 pub mod CostLaws
+pub mod NearestChangeLaws
 pub mod SetLaws
 pub mod NeighbourLaws
 pub mod SearchLaws

@@ -41,6 +41,16 @@ all-stops p (suc n) i h e =
       | no g ↦ ap (λ (k : ℕ). allBelow n p && p k) (omega arith) ∙ ap (λ (b : Bool). allBelow n p && b) e ∙ and-false (allBelow n p)
     ]
 
+-- a loop that does not end early: `good && here` is the next `good`
+module _ (p : ℕ → Bool) (i : ℕ) {good next : Bool} (e : good ≡ allBelow i p) where
+  pub all-kept : {here : Bool} → here ≡ p i → good ≡ true → next ≡ here → next ≡ allBelow (i + 1) p
+  unfolding allBelow
+  all-kept h kept n = rw (add-one, ← e, kept, ← h) n
+
+  pub all-lost : good ≡ false → next ≡ good → next ≡ allBelow (i + 1) p
+  unfolding allBelow
+  all-lost lost n = rw (add-one, ← e, lost) (n ∙ lost)
+
 -- the readable form: p holds of each index
 pub all-at : (p : ℕ → Bool) (n i : ℕ) → allBelow n p ≡ true → i < n → p i ≡ true
 all-at p n i h l = cases (p i) (λ e. e) (λ e. clash h (all-stops p n i l e))

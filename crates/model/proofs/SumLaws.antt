@@ -114,6 +114,18 @@ sum-one (suc n) k f h = go (eqb k n) (test k n) (sum-one n k f)
     go true (same e) ih = omega (arith, sum-one-out n k f (omega arith), ap f e)
     go false (diff e) ih = omega (arith, ih (omega arith))
 
+-- two sums whose terms agree except at j differ as their terms at j do
+pub sum-change : (n j : ℕ) (f g : ℕ → ℕ) → j < n → ((k : ℕ) → k < n → ¬ (k ≡ j) → f k ≡ g k) → sum n f + g j ≡ sum n g + f j
+unfolding sum
+sum-change zero j f g h agree = absurd (not-suc-le-zero h)
+sum-change (suc n) j f g h agree = go (last-or h) (λ l. sum-change n j f g l (λ k below. agree k (le-step below)))
+  where
+    go : (j ≡ n) ⊎ (j < n) → (j < n → sum n f + g j ≡ sum n g + f j) → sum n f + f n + g j ≡ sum n g + g n + f j
+    go (inl e) ih =
+        let before = sum-cong n (λ k l. agree k (le-step l) (λ q. omega arith)) in
+        omega (arith, before, ap f e, ap g e)
+    go (inr l) ih = omega (arith, ih l, agree n (lt-suc-self n) (λ q. omega arith))
+
 -- ---- terms behind a test
 
 pub on-zero : (b : Bool) → on b 0 ≡ 0

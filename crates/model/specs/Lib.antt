@@ -1,7 +1,9 @@
 -- Loops: what loops compute. Least: least members. Sets: sets of numbers. Instance: the problem and its costs.
 -- Neighbours: the moves of a search. Search: the search itself. Plans: the two searches of document 01.
+-- TwoLeast: the two least values over a set.
 pub mod Loops
 pub mod Least
+pub mod TwoLeast
 pub mod Sets
 pub mod Instance
 pub mod Neighbours

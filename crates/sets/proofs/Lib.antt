@@ -1,2 +1,3 @@
--- SetLaws: what fits into 32 bits.
+-- SetLaws: what fits into 32 bits. MemberLaws: the listed numbers of a set.
 pub mod SetLaws
+pub mod MemberLaws

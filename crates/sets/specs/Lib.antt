@@ -1,2 +1,3 @@
--- Within: sets that stay within 32 bits.
+-- Within: sets that stay within 32 bits. Members: the numbers of a set, listed.
 pub mod Within
+pub mod Members

@@ -7,4 +7,5 @@ pub mod FormLaws
 pub mod ShapeLaws
 pub mod AcceptedLaws
 pub mod FarmLaws
+pub mod OnePassLaws
 pub mod CostBounds

@@ -1,16 +1,17 @@
 -- Laws of reading: each refusal number comes exactly when its question is the first that is answered no.
 use Prim.Native.Nat.{ℕ, _≤_}
 use native.Mathlib.Omega.{arith}
-use mathlib.Core.Path.{_≡_, refl, sym, ap, subst, _∙_}
+use mathlib.Core.Path.{_≡_, refl, sym, ap, ap₂, subst, _∙_}
 use mathlib.Core.Logic.{_⊎_, inl, inr}
 use mathlib.Core.Bool.{Bool, true, false}
 use mathlib.Core.List.{List}
 use Rattle.model.specs.Instance.{Breaks}
 use Rattle.model.proofs.CostLaws.{not-metric, broken}
-use Rattle.sheet.specs.Answers.{Answer, accepted, refused}
+use Rattle.sheet.specs.Answers.{Answer, accepted, refused, ask, after}
 use Rattle.sheet.specs.Sheet.{yards, farms, instanceOf}
 use Rattle.sheet.specs.Questions.{question1, question2, question3, question4, question5, question6}
 use Rattle.sheet.specs.Reading.{Counts, counts, form, reading}
+use Rattle.sheet.specs.OnePass.{Passes, formAndAmounts}
 
 -- questions 1 to 4 are answered yes
 pub record Formed (s : List ℕ) : Type 0 where
@@ -167,3 +168,45 @@ module _ (s : List ℕ) where
       × (Formed s → question5 s ≡ true → Breaks (instanceOf s) → reading s ≡ refused 6)
   unfolding question6
   refused-by-6 = (λ h. broken-rule (refused-when 6 h), λ y a w. reading-6 (form-yes y) a (broken (instanceOf s) w))
+
+-- ---- questions 1 to 5
+
+module _ (s : List ℕ) where
+  -- a sheet that passes them in one pass
+  pub passes-form : {m n : ℕ} → Passes s m n → form s ≡ accepted (counts m n)
+  passes-form y =
+      form-yes s record { first = y .first; second = y .second; third = y .third; fourth = y .fourth }
+      ∙ ap₂ (λ m n. accepted (counts m n)) (y .yards-are) (y .farms-are)
+
+  pub amounts-form : (k : ℕ) → form s ≡ refused k → formAndAmounts s ≡ refused k
+  unfolding formAndAmounts
+  amounts-form k f = rw f
+
+  pub amounts-5 : {c : Counts} → form s ≡ accepted c → question5 s ≡ false → formAndAmounts s ≡ refused 5
+  unfolding formAndAmounts
+  amounts-5 f a = rw (f, a)
+
+  pub amounts-yes : {c : Counts} → form s ≡ accepted c → question5 s ≡ true → formAndAmounts s ≡ accepted c
+  unfolding formAndAmounts
+  amounts-yes f a = rw (f, a)
+
+  -- and back: the form is accepted, and question 5 answered yes
+  pub amounts-accepted : {c : Counts} → formAndAmounts s ≡ accepted c → (form s ≡ accepted c) × (question5 s ≡ true)
+  unfolding formAndAmounts
+  amounts-accepted {c} h = go (form s) (question5 s) refl refl h
+    where
+      go : (f : Answer Counts) (q : Bool) → form s ≡ f → question5 s ≡ q → after f (λ d. ask q 5 (accepted d)) ≡ accepted c
+          → (form s ≡ accepted c) × (question5 s ≡ true)
+      go (accepted d) true e a g = (e ∙ g, a)
+      go (accepted d) false e a g = absurd (apart (sym g))
+      go (refused k) q e a g = absurd (apart (sym g))
+
+  pub amounts-refused : (k : ℕ) → formAndAmounts s ≡ refused k → reading s ≡ refused k
+  unfolding formAndAmounts reading
+  amounts-refused k h = go (form s) (question5 s) h
+    where
+      go : (f : Answer Counts) (q : Bool) → after f (λ d. ask q 5 (accepted d)) ≡ refused k
+          → after f (λ d. ask q 5 (ask (question6 s) 6 (accepted d))) ≡ refused k
+      go (accepted d) true g = absurd (apart g)
+      go (accepted d) false g = g
+      go (refused j) q g = g

@@ -5,11 +5,30 @@ ghost use lib.ListN.{length};
 ghost use Rattle.model.specs.Loops.{allBelow};
 ghost use Rattle.sheet.specs.Sheet.{yards};
 ghost use Rattle.sheet.specs.Questions.{amountWithin, question5};
+ghost use Rattle.sheet.specs.Reading.{meaning};
+ghost use Rattle.sheet.specs.OnePass.{formAndAmounts};
+use crate::Reading;
+use crate::form;
 use crate::record::Record;
 
-const MOST_FEE: u32 = 50000000;
+pub(crate) const MOST_FEE: u32 = 50000000;
 
-const MOST_HAUL: u32 = 1000000;
+pub(crate) const MOST_HAUL: u32 = 1000000;
+
+// The counts of yards and farms, or the number of the first question of 1 to 5 that is answered no.
+pub(crate) fn form_and_amounts_of(sheet: &[u8]) -> Reading
+    ensures { λ r. ⌜ meaning r ≡ formAndAmounts (now (sheet .entry)) ⌝ }
+{
+    match form::form_of(sheet) {
+        Reading::Accepted { yards, farms } => {
+            if !amounts_good(sheet, yards) {
+                return Reading::Refused(5);
+            }
+            Reading::Accepted { yards, farms }
+        }
+        Reading::Refused(k) => Reading::Refused(k),
+    }
+}
 
 fn amount_within(sheet: &[u8], from: usize, most: u32, i: usize) -> bool
     requires { ⌜ 8 * (from + i) + 8 ≤ length (now sheet) ⌝ }
@@ -35,7 +54,7 @@ fn amounts_within(sheet: &[u8], from: usize, most: u32, count: usize) -> bool
 }
 
 // Question 5, of a sheet with m yard records first.
-pub(crate) fn amounts_good(sheet: &[u8], m: usize) -> bool
+fn amounts_good(sheet: &[u8], m: usize) -> bool
     requires { ⌜ m ≡ yards (now sheet) ⌝ }
     ensures { λ r. ⌜ r ≡ question5 (now (sheet .entry)) ⌝ }
 {

@@ -38,7 +38,7 @@ pub(crate) fn form_of(sheet: &[u8]) -> Reading
 }
 
 // Question 1.
-fn length_good(sheet: &[u8]) -> bool
+pub(crate) fn length_good(sheet: &[u8]) -> bool
     ensures { λ r. ⌜ r ≡ question1 (now (sheet .entry)) ⌝ }
 {
     sheet.len() % Record::LEN == 0 && (LEAST_BYTES <= sheet.len() && sheet.len() <= MOST_BYTES)
@@ -75,7 +75,7 @@ fn is_yard(sheet: &[u8], i: usize) -> bool
 }
 
 // How many yard records stand first.
-fn leading_yards(sheet: &[u8]) -> usize
+pub(crate) fn leading_yards(sheet: &[u8]) -> usize
     ensures { λ r. ⌜ r ≡ yards (now (sheet .entry)) ⌝ }
 {
     let n = sheet.len() / Record::LEN;
@@ -145,7 +145,7 @@ fn yards_good(sheet: &[u8], m: usize) -> bool
 }
 
 // The haul records, shared out m to a farm.
-fn farm_count(sheet: &[u8], m: usize) -> usize
+pub(crate) fn farm_count(sheet: &[u8], m: usize) -> usize
     requires { ⌜ (m ≡ yards (now sheet)) × (1 ≤ m) ⌝ }
     ensures { λ r. ⌜ r ≡ farms (now (sheet .entry)) ⌝ }
 {

@@ -5,6 +5,7 @@
 mod amounts;
 mod form;
 mod four_point;
+mod one_pass;
 mod record;
 
 pub use form::MOST_BYTES;
@@ -28,11 +29,8 @@ pub enum Reading {
 pub fn read(sheet: &[u8]) -> Reading
     ensures { λ r. ⌜ meaning r ≡ reading (now (sheet .entry)) ⌝ }
 {
-    match form::form_of(sheet) {
+    match one_pass::form_and_amounts_of(sheet) {
         Reading::Accepted { yards, farms } => {
-            if !amounts::amounts_good(sheet, yards) {
-                return Reading::Refused(5);
-            }
             if !four_point::is_metric(sheet, yards, farms) {
                 return Reading::Refused(6);
             }
@@ -47,7 +45,7 @@ pub fn read(sheet: &[u8]) -> Reading
 pub fn farm_hauls(sheet: &[u8], farm: usize) -> &[u8]
     ensures { λ r. ⌜ now r ≡ farmHauls (now (sheet .entry)) farm ⌝ }
 {
-    match form::form_of(sheet) {
+    match one_pass::form_of(sheet) {
         Reading::Accepted { yards, farms } => {
             if farm < farms {
                 farm_stretch(sheet, yards, farm)

@@ -3,6 +3,7 @@ ghost use mathlib.Core.Path.{_≡_};
 ghost use Prim.Native.Nat.{_+_, _*_, _≤_};
 ghost use lib.ListN.{length};
 ghost use Rattle.sheet.specs.Records.{word, recordOf, recordAt, wholeRecordAt, putAt, wellFormed};
+ghost use Rattle.sheet.specs.OnePass.{recordIs};
 
 pub const KIND_YARD: u8 = 0x59;
 
@@ -83,6 +84,14 @@ impl Record {
             KIND_HAUL => self.byte3 == 0,
             _ => false,
         }
+    }
+
+    // Bytes 0 to 3 are these three and zero, and the amount is at most `most`: one comparison of four bytes, one of the amount.
+    pub(crate) fn is(self, kind: u8, yard: u8, farm: u8, most: u32) -> bool
+        ensures { λ r. ⌜ r ≡ recordIs self kind yard farm most ⌝ }
+    {
+        let head = word32(self.kind, self.yard, self.farm, self.byte3);
+        head == word32(kind, yard, farm, 0) && self.amount <= most
     }
 }
 
