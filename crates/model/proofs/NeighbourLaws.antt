@@ -143,14 +143,14 @@ module _ (m set : ℕ) where
           count-trade m set (r .out) (r .into) (r .out-below) (r .into-below) (r .out-open) (r .into-shut),
         )
 
-    kept : (x : ℕ) → Move m set x → (x < 2 ^ m) × (any m (member x) ≡ true)
-    kept x (added o l e q) = rw q (with-below m set o small l, with-some m set o l)
-    kept x (dropped f l e two q) =
+    pub move-keeps : (x : ℕ) → Move m set x → (x < 2 ^ m) × (any m (member x) ≡ true)
+    move-keeps x (added o l e q) = rw q (with-below m set o small l, with-some m set o l)
+    move-keeps x (dropped f l e two q) =
         rw q (
           lt-of-le-of-lt (without-le set f) small,
           any-counted m (member (without set f)) (omega (arith, count-without m set f l e)),
         )
-    kept x (swapped f o lf ef lo eo q) = rw q (swapped-below f o lo, with-some m (without set f) o lo)
+    move-keeps x (swapped f o lf ef lo eo q) = rw q (swapped-below f o lo, with-some m (without set f) o lo)
 
     pub moves-keep : (x : ℕ) → Among x (addDropSwap m set) → (x < 2 ^ m) × (any m (member x) ≡ true)
-    moves-keep x h = kept x (among-move x h)
+    moves-keep x h = move-keeps x (among-move x h)

@@ -1,17 +1,22 @@
 -- Laws of costs on a sheet: the sums that the loops over yards and farms compute are those of the sheet's instance.
-use Prim.Native.Nat.{ℕ, _<_}
+use Prim.Native.Nat.{ℕ, _≤_, _<_}
 use native.Mathlib.Omega.{arith}
 use mathlib.Core.Path.{_≡_, refl, ap, _∙_}
 use mathlib.Core.Bool.{Bool}
 use mathlib.Core.List.{List}
 use Rattle.model.specs.Loops.{on, sum}
 use Rattle.model.specs.Instance.{nearest, openingCost, serviceCost}
+use Rattle.model.proofs.SumLaws.{Summed}
 use Rattle.model.proofs.CostLaws.{service-once}
 use Rattle.sheet.specs.declared.record.Record.{Record}
 use Rattle.sheet.specs.Records.{wholeRecordAt}
 use Rattle.sheet.specs.Sheet.{fee, instanceBy}
 use Rattle.sheet.specs.Shape.{Shape}
 use Rattle.sheet.proofs.RecordLaws.{whole}
+
+-- terms that are 0 need no turn
+pub summed-same : (f : ℕ → ℕ) (total i k : ℕ) → i ≤ k → sum k f ≡ sum i f → Summed f total i → Summed f total k
+summed-same f total i k up same h = record { exact = rw same (h .exact); small = omega (arith, h .small) }
 
 module _ (s : List ℕ) (m n : ℕ) where
   -- the record of yard i lies within the sheet, and its amount is the fee

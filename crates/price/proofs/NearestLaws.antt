@@ -1,21 +1,27 @@
 -- Laws of the nearest open yard: what `closer` keeps, what a turn over the yards adds, and that a farm's stretch of the sheet
 -- gives the nearest yard of the instance.
-use Prim.Native.Nat.{ℕ, _+_, _≤_, _<_, min}
+use Prim.Native.Nat.{ℕ, _+_, _-_, _*_, _/_, _%_, _^_, _≤_, _<_, min}
 use native.Mathlib.Nat.{le-of-lt, min-eq-left, min-eq-right}
 use native.Mathlib.Numerals.{add-one}
 use native.Mathlib.Omega.{arith}
-use mathlib.Core.Path.{_≡_, refl, sym, ap, _∙_}
+use mathlib.Core.Path.{_≡_, refl, sym, ap, ap₂, _∙_}
 use mathlib.Core.Bool.{Bool, true, false, cond, not, _&&_, _||_, and-false, or-true}
 use mathlib.Core.List.{List}
 use borrow.Author.Tests.{lt-ltb, le-ltb, leb-true, leb-false}
 use lib.Dec.{leb, ltb}
+use lib.ListN.{length, getD, take, drop, length-drop}
+use lib.Seq.{getD-take, getD-drop, length-take-le}
 use Rattle.model.specs.Least.{any, least, arg}
 use Rattle.model.specs.Sets.{member}
 use Rattle.model.specs.Instance.{nearest, assigned}
-use Rattle.model.proofs.Bools.{Lt?, less, more, test<}
+use Rattle.model.proofs.Bools.{cases, Lt?, less, more, test<}
 use Rattle.model.proofs.LeastLaws.{least-at, least-values, arg-values, arg-le}
+use Rattle.model.proofs.GapLaws.{NoneFrom, any-gap, least-gap, arg-gap}
+use Rattle.sets.proofs.SetLaws.{none-above}
+use Rattle.sets.specs.Members.{risingBelow}
+use Rattle.sets.proofs.MemberLaws.{Next, Last, passed, passed-none, passed-more, listed-next, listed-last}
 use Rattle.sheet.specs.declared.record.Record.{Record}
-use Rattle.sheet.specs.Records.{wholeRecordAt}
+use Rattle.sheet.specs.Records.{recordAt, wholeRecordAt}
 use Rattle.sheet.specs.Sheet.{records, haul, instanceBy}
 use Rattle.sheet.specs.Shape.{Shape}
 use Rattle.sheet.specs.Reading.{stretch}
@@ -69,14 +75,130 @@ nearest-more S v i =
     (step i (arg i S v) (v i) (v (arg i S v)) (least i S v) (S i) (any i S) (λ e. sym (least-at i S v e)) (ltb (v i) (least i S v))
     (test< (v i) (least i S v)))
 
--- a turn, with what its calls answer
-pub nearest-turn : (bytes : List ℕ) (set i : ℕ) (isOpen : Bool) (r : Record) (b : Nearest) → i < records bytes
-    → r ≡ wholeRecordAt bytes i → isOpen ≡ member set i → b ≡ nearestBelow i (member set) (amountAt bytes)
-    → closer isOpen i (r .amount) b ≡ nearestBelow (i + 1) (member set) (amountAt bytes)
-unfolding amountAt
-nearest-turn bytes set i isOpen r b below er eo eb =
-    let amount : r .amount ≡ amountAt bytes i = ap (λ (x : Record). x .amount) (er ∙ whole bytes i (omega arith)) in
-    rw (eo, amount, eb) (sym (nearest-more (member set) (amountAt bytes) i))
+-- numbers that are not in S
+pub nearest-gap : (S : ℕ → Bool) (v : ℕ → ℕ) (i k : ℕ) → i ≤ k → NoneFrom S i k → nearestBelow k S v ≡ nearestBelow i S v
+unfolding nearestBelow
+nearest-gap S v i k h none = rw (any-gap S i k h none, arg-gap S i k h none v, least-gap S i k h none v)
+
+-- ---- a yard and its haul in one number: the haul from bit 32 on, the yard below
+
+abbrev pub haulTo : ℕ → ℕ → ℕ
+haulTo haul yard = 4294967296 * haul + yard
+
+-- the number of the nearest yard b, where there is one
+pub record Holds (b : Nearest) (number : ℕ) : Type 0 where
+  pub found : b .found ≡ true
+  pub is : number ≡ haulTo (b .haul) (b .yard)
+
+-- the lesser of the numbers is that of the nearer yard, where the yards rise
+holds-more : (yard haul number : ℕ) (b : Nearest) → Holds b number → b .yard ≤ yard → yard < 4294967296
+    → Holds (closer true yard haul b) (min (haulTo haul yard) number)
+holds-more yard haul number b h rises small =
+    cases (leb (b .haul) haul)
+    (λ e. let stays = leb-true (b .haul) haul e in
+    rw (← closer-stays true yard haul b (h .found) e) (record {
+      found = h .found;
+      is = min-eq-right (omega (arith, h .is)) ∙ h .is;
+    }))
+    (λ e. let nearer = leb-false (b .haul) haul e in
+    rw (← closer-nearer true yard haul b refl e) (record { found = refl; is = min-eq-left (omega (arith, h .is)) }))
+
+-- ---- a loop over the listed yards of a set: the yards below p are passed
+
+module _ (set : ℕ) (v : ℕ → ℕ) where
+  abbrev pub Passed : ℕ → ℕ → Type 0
+  Passed p number = Holds (nearestBelow p (member set) v) number
+
+  module _ (m p x : ℕ) (next : Next set m p x) where
+    turn : nearestBelow (x + 1) (member set) v ≡ closer true x (v x) (nearestBelow p (member set) v)
+    turn =
+        nearest-more (member set) v x
+        ∙ ap₂ (λ b near. closer b x (v x) near) (next .is-in) (nearest-gap (member set) v p x (next .rises) (next .none))
+
+    pub passed-first : p ≡ 0 → Passed (x + 1) (haulTo (v x) x)
+    passed-first e =
+        let none : nearestBelow p (member set) v ≡ near false 0 0 = rw e (sym (nearest-none (member set) v)) in
+        rw (turn, none, ← closer-first true x (v x) (near false 0 0) refl refl) (record { found = refl; is = refl })
+
+    pub passed-next : x < 4294967296 → (number : ℕ) → Passed p number → Passed (x + 1) (min (haulTo (v x) x) number)
+    unfolding nearestBelow
+    passed-next small number h =
+        rw turn (holds-more x (v x) number (nearestBelow p (member set) v) h (omega (arith, arg-le p (member set) v, next .rises)) small)
+
+  module _ (m p : ℕ) (last : Last set m p) where
+    pub passed-nothing : p ≡ 0 → near false 0 0 ≡ nearestBelow m (member set) v
+    passed-nothing e = rw (nearest-gap (member set) v p m (last .within) (last .none), e) (nearest-none (member set) v)
+
+    pub passed-all : p ≤ 32 → (number : ℕ) → Passed p number
+        → near true (number % 4294967296) (number / 4294967296) ≡ nearestBelow m (member set) v
+    unfolding nearestBelow
+    passed-all few number h =
+        let b = nearestBelow p (member set) v in
+        let small : b .yard ≤ 32 = omega (arith, arg-le p (member set) v) in
+        let yard : number % 4294967296 ≡ b .yard = omega (arith, h .is) in
+        let haul : number / 4294967296 ≡ b .haul = omega (arith, h .is) in
+        rw (yard, haul, ← h .found) (sym (nearest-gap (member set) v p m (last .within) (last .none)))
+
+  -- no set of 32 bits has a yard from 32 on
+  pub nearest-within : set < 2 ^ 32 → (m : ℕ) → nearestBelow (min m 32) (member set) v ≡ nearestBelow m (member set) v
+  nearest-within small m =
+      sym (nearest-gap (member set) v (min m 32) m (omega arith) (λ j a b. sym (none-above set j small (omega arith))))
+
+-- the amount of a record that is read as a part of the bytes
+pub part-amount : (bytes part : List ℕ) (i : ℕ) (r : Record) → 8 * i + 8 ≤ length bytes → part ≡ take (8 * i + 8 - 8 * i) (drop (8 * i) bytes)
+    → r ≡ wholeRecordAt part 0 → r .amount ≡ amountAt bytes i
+unfolding amountAt recordAt
+part-amount bytes part i r room cut er =
+    let size : length part ≡ 8 = ap length e ∙ length-take-le 8 (drop (8 * i) bytes) (omega (arith, length-drop (8 * i) bytes)) in
+    let read : r ≡ recordAt part 0 = er ∙ whole part 0 (omega arith) in
+    ap (λ (x : Record). x .amount) read ∙ rw (byte 4 (omega arith), byte 5 (omega arith), byte 6 (omega arith), byte 7 (omega arith))
+  where
+    e : part ≡ take 8 (drop (8 * i) bytes)
+    e = let whole-record : 8 * i + 8 - 8 * i ≡ 8 = omega arith in cut ∙ ap (λ (n : ℕ). take n (drop (8 * i) bytes)) whole-record
+
+    byte : (k : ℕ) → k < 8 → getD part (8 * 0 + k) 0 ≡ getD bytes (8 * i + k) 0
+    byte k l =
+        ap (λ (s : List ℕ). getD s (8 * 0 + k) 0) e ∙ getD-take 8 (drop (8 * i) bytes) (8 * 0 + k) 0 (omega arith)
+        ∙ getD-drop (8 * i) bytes (8 * 0 + k) 0 ∙ ap (λ x. getD bytes x 0) (omega arith)
+
+-- ---- the loop over the listed yards of a set on a stretch of the sheet
+
+module _ (bytes yards : List ℕ) (set : ℕ) (e : yards ≡ risingBelow (min (records bytes) 32) set) where
+  next : (t : ℕ) → t < length yards → Next set (min (records bytes) 32) (passed yards t) (getD yards t 0)
+  next = listed-next set (min (records bytes) 32) yards e
+
+  last : Last set (min (records bytes) 32) (passed yards (length yards))
+  last = listed-last set (min (records bytes) 32) yards e
+
+  all : set < 2 ^ 32 → nearestBelow (min (records bytes) 32) (member set) (amountAt bytes) ≡ nearestOn bytes set
+  unfolding nearestOn
+  all small = nearest-within set (amountAt bytes) small (records bytes)
+
+  -- the listed yards lie on the stretch
+  pub yard-room : (t : ℕ) → t < length yards → 8 * getD yards t 0 + 8 ≤ length bytes
+  yard-room t l = omega (arith, next t l .below)
+
+  pub none-listed : set < 2 ^ 32 → length yards ≡ 0 → near false 0 0 ≡ nearestOn bytes set
+  none-listed small none =
+      passed-nothing set (amountAt bytes) (min (records bytes) 32) (passed yards (length yards)) last
+      (ap (passed yards) none ∙ passed-none yards) ∙ all small
+
+  pub first-listed : 0 < length yards → (r : ℕ) → r ≡ haulTo (amountAt bytes (getD yards 0 0)) (getD yards 0 0)
+      → Passed set (amountAt bytes) (passed yards 1) r
+  first-listed some r er =
+      rw (er, passed-more yards 0) (passed-first set (amountAt bytes) (min (records bytes) 32) (passed yards 0) (getD yards 0 0) (next 0 some) (passed-none yards))
+
+  pub next-listed : (t : ℕ) → t < length yards → (r k q : ℕ) → r ≡ haulTo (amountAt bytes (getD yards t 0)) (getD yards t 0)
+      → q ≡ min r k → Passed set (amountAt bytes) (passed yards t) k → Passed set (amountAt bytes) (passed yards (t + 1)) q
+  next-listed t l r k q er eq h =
+      rw (eq, er, passed-more yards t) (passed-next set (amountAt bytes) (min (records bytes) 32) (passed yards t) (getD yards t 0) (next t l)
+      (omega (arith, next t l .below)) k h)
+
+  pub all-listed : set < 2 ^ 32 → (t k : ℕ) → t ≡ length yards → Passed set (amountAt bytes) (passed yards t) k
+      → near true (k % 4294967296) (k / 4294967296) ≡ nearestOn bytes set
+  all-listed small t k done h =
+      passed-all set (amountAt bytes) (min (records bytes) 32) (passed yards (length yards)) last
+      (omega (arith, last .within)) k (rw done at h) ∙ all small
 
 -- ---- a farm's stretch
 
@@ -85,6 +207,12 @@ unfolding nearestBelow
 nearest-values m S v w h = rw (arg-values S v w m h, least-values S v w m h)
 
 module _ (s : List ℕ) (m n p : ℕ) (f : Shape s m n) (below : p < n) (set : ℕ) where
+  -- the yards on the stretch are the sheet's
+  pub farm-yards : (hauls : List ℕ) → hauls ≡ stretch s m p → risingBelow m set ≡ risingBelow (min (records hauls) 32) set
+  farm-yards hauls e =
+      let all : m ≡ min (records hauls) 32 = omega (arith, ap length e, stretch-length s m n p f below, f .few-yards) in
+      ap (λ (k : ℕ). risingBelow k set) all
+
   pub farm-nearest : nearestOn (stretch s m p) set ≡ nearestBelow m (member set) (λ i. haul s m i p)
   unfolding nearestOn amountAt haul
   farm-nearest =

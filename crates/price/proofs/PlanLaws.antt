@@ -1,6 +1,5 @@
--- Laws of a plan's records: what each is on a sheet, how long the parts are, when a plan is written at all, and that three writes
--- in a row write it.
-use Prim.Native.Nat.{ℕ, zero, suc, _+_, _*_, _/_, _≤_, _<_}
+-- Laws of a plan's records: what each is on a sheet, how long the parts are, when a plan is written at all, and by what writes.
+use Prim.Native.Nat.{ℕ, zero, suc, _+_, _*_, _≤_, _<_}
 use native.Mathlib.Omega.{arith}
 use mathlib.Core.Path.{_≡_, refl, sym, ap, _∙_}
 use mathlib.Core.Bool.{Bool, true, false, _&&_}
@@ -21,12 +20,11 @@ use Rattle.sheet.specs.Shape.{Shape}
 use Rattle.sheet.specs.Reading.{stretch}
 use Rattle.sheet.proofs.RecordLaws.{whole}
 use Rattle.sheet.proofs.ShapeLaws.{few-hauls}
-use Rattle.sheet.proofs.SpliceLaws.{length-bytes}
+use Rattle.sheet.proofs.SpliceLaws.{length-bytes, splice-turn}
 use Rattle.price.specs.declared.nearest.Nearest.{Nearest}
 use Rattle.price.specs.Nearest.{nearestOn}
 use Rattle.price.specs.Plan.{openRecord, farmRecord, totalRecord, movesRecord, planBytes, question9, planFits, writing}
 use Rattle.price.proofs.NearestLaws.{farm-haul, farm-yard, farm-yard-small}
-use Rattle.price.proofs.WriteLaws.{splice-three}
 
 -- ---- the parts
 
@@ -48,7 +46,7 @@ module _ (I : Instance) (set : ℕ) where
   pub open-short : (i : ℕ) → length (openRecord I set i) ≤ 8
   open-short i = omega (arith, open-length i, on-le (member set i) 1)
 
-  farm-length : (j : ℕ) → length (farmRecord I set j) ≡ 8
+  pub farm-length : (j : ℕ) → length (farmRecord I set j) ≡ 8
   unfolding farmRecord
   farm-length j = length-bytes (recordOf 0x41 (assigned I (member set) j) j 0 (nearest I (member set) j))
 
@@ -80,10 +78,12 @@ module _ (s : List ℕ) (m n set : ℕ) where
 
   -- a farm's record has the yard and the haul that are nearest on the farm's stretch
   pub farm-on : Shape s m n → (p : ℕ) → p < n → (hauls : List ℕ) (r : Nearest) → hauls ≡ stretch s m p → r ≡ nearestOn hauls set
-      → (farmRecord (instanceBy s m n) set p ≡ bytesOf (recordOf 0x41 (r .yard) p 0 (r .haul))) × (r .yard ≤ 32)
+      → (r .haul ≡ nearest (instanceBy s m n) (member set) p)
+      × (farmRecord (instanceBy s m n) set p ≡ bytesOf (recordOf 0x41 (r .yard) p 0 (r .haul))) × (r .yard ≤ 32)
   unfolding farmRecord
   farm-on shape p l hauls r part e =
       rw (e, part) (
+        farm-haul s m n p shape l set,
         rw (farm-yard s m n p shape l set, farm-haul s m n p shape l set),
         farm-yard-small s m n p shape l set,
       )
@@ -180,49 +180,33 @@ module _ (s : List ℕ) (m n set total moves room : ℕ) where
     unfolding writing
     writes-plan h = rw (fits, le-leb (8 * (m + n * m)) (length s) h)
 
--- ---- the three writes of a plan that fits
+-- ---- the writes of a plan that fits: the records of the yards and the farms, and the last two
 
-module _ (s : List ℕ) (m n set room : ℕ) (fits : planFits m n room ≡ true) (from : ℕ)
-    (e : from ≡ length (join m (openRecord (instanceBy s m n) set))) where
-  eights : from ≡ 8 * count m (member set)
-  eights = e ∙ opens-length (instanceBy s m n) set m
+-- the last two have room
+pub end-room : (m n set room opened : ℕ) → planFits m n room ≡ true → opened ≡ count m (member set)
+    → (opened ≤ 32) × (n ≤ 128) × (8 * (opened + n + 2) ≤ room)
+end-room m n set room opened fits e =
+    let f = fits-says m n room fits in
+    let few : opened ≤ m = omega (arith, count-le m (member set)) in
+    (omega (arith, f .few-yards), f .few-farms, omega (arith, f .enough))
 
-  rest-room : from + 8 * n + 16 ≤ room
-  rest-room = omega (arith, eights, count-le m (member set), fits-says m n room fits .enough)
-
-  -- where the yards' records end: so many yards are open, and the farms' records have room
-  pub open-yards : from / 8 ≡ count m (member set)
-  open-yards = omega (arith, eights)
-
-  pub few-open : from / 8 ≤ 32
-  few-open = omega (arith, open-yards, count-le m (member set), fits-says m n room fits .few-yards)
-
-  pub farms-room : from + 8 * n ≤ room
-  farms-room = omega (arith, rest-room)
-
-  -- where the farms' records end, the last two have room
-  pub end-room : (to : ℕ) → to ≡ from + length (join n (farmRecord (instanceBy s m n) set)) → to + 16 ≤ room
-  end-room to h = omega (arith, h, rest-room, farms-length (instanceBy s m n) set n)
-
-pub writes-all : (s : List ℕ) (m n set total moves : ℕ) (area₀ area₁ area₂ area₃ : List ℕ) (from to end : ℕ)
-    → planFits m n (length area₀) ≡ true → 8 * (m + n * m) ≤ length s
-    → from ≡ length (join m (openRecord (instanceBy s m n) set))
-    → area₁ ≡ splice area₀ 0 (join m (openRecord (instanceBy s m n) set))
-    → to ≡ from + length (join n (farmRecord (instanceBy s m n) set))
-    → area₂ ≡ splice area₁ from (join n (farmRecord (instanceBy s m n) set))
-    → end ≡ to + 16
-    → area₃ ≡ splice area₂ to (bytesOf (recordOf 0x54 (from / 8) n 0 total) ++ movesRecord moves)
+pub writes-all : (s : List ℕ) (m n set total moves : ℕ) (area₀ area₁ area₂ : List ℕ) (opened end : ℕ)
+    → planFits m n (length area₀) ≡ true → 8 * (m + n * m) ≤ length s → opened ≡ count m (member set)
+    → area₁ ≡ splice area₀ 0 (join m (openRecord (instanceBy s m n) set) ++ join n (farmRecord (instanceBy s m n) set))
+    → end ≡ 8 * (opened + n + 2)
+    → area₂ ≡ splice area₁ (8 * (opened + n)) (bytesOf (recordOf 0x54 opened n 0 total) ++ movesRecord moves)
     → (end ≡ length (writing s m n set total moves (length area₀)))
-    × (area₃ ≡ splice area₀ 0 (writing s m n set total moves (length area₀)))
-writes-all s m n set total moves area₀ area₁ area₂ area₃ from to end fits enough e₁ put₁ e₂ put₂ e₃ put₃ =
+    × (area₂ ≡ splice area₀ 0 (writing s m n set total moves (length area₀)))
+writes-all s m n set total moves area₀ area₁ area₂ opened end fits enough e put₁ e₂ put₂ =
     let opens = join m (openRecord (instanceBy s m n) set) in
     let farms = join n (farmRecord (instanceBy s m n) set) in
-    let last = bytesOf (recordOf 0x54 (from / 8) n 0 total) ++ movesRecord moves in
+    let last = bytesOf (recordOf 0x54 opened n 0 total) ++ movesRecord moves in
     let parts : writing s m n set total moves (length area₀) ≡ opens ++ farms ++ last =
-    writes-plan s m n set total moves (length area₀) fits enough
-    ∙ rw (open-yards s m n set (length area₀) fits from e₁) (plan-parts s m n set total moves) in
+    writes-plan s m n set total moves (length area₀) fits enough ∙ rw e (plan-parts s m n set total moves) in
+    let long : length (opens ++ farms) ≡ 8 * (opened + n) =
+    omega (arith, length-append opens farms, opens-length (instanceBy s m n) set m, farms-length (instanceBy s m n) set n) in
     rw parts (
-      omega (arith, length-append (opens ++ farms) last, length-append opens farms, end-length (from / 8) n total moves),
-      splice-three area₀ area₁ area₂ area₃ opens farms last from to
-          (omega (arith, end-room s m n set (length area₀) fits from e₁ to e₂)) put₁ e₁ put₂ e₂ put₃,
+      omega (arith, length-append (opens ++ farms) last, end-length opened n total moves),
+      put₂ ∙ splice-turn area₀ area₁ 0 (8 * (opened + n)) (opens ++ farms) last put₁ (omega arith)
+          (omega (arith, end-room m n set (length area₀) opened fits e .2)),
     )

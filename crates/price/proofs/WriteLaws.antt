@@ -1,5 +1,4 @@
--- Laws for writers: one record or two, a loop that writes the parts f 0, f 1, .. of at most eight bytes each from an offset on,
--- and three writes in a row.
+-- Laws for writers: one record or two, and a loop that writes the parts f 0, f 1, .. of at most eight bytes each from an offset on.
 use Prim.Native.Nat.{ℕ, _+_, _*_, _≤_}
 use native.Mathlib.Omega.{arith}
 use mathlib.Core.Path.{_≡_, sym, ap, _∙_}
@@ -57,10 +56,7 @@ module _ (f : ℕ → List ℕ) (area₀ : List ℕ) (start : ℕ) where
             ∙ ap (splice area₀ start) (sym (join-more f i));
       }
 
--- three lists written from the front of an area, each behind the one before: one splice of all
-pub splice-three : (area₀ area₁ area₂ area₃ a b c : List ℕ) (end₁ end₂ : ℕ) → length a + length b ≤ length area₀
-    → area₁ ≡ splice area₀ 0 a → end₁ ≡ length a → area₂ ≡ splice area₁ end₁ b → end₂ ≡ end₁ + length b
-    → area₃ ≡ splice area₂ end₂ c → area₃ ≡ splice area₀ 0 (a ++ b ++ c)
-splice-three area₀ area₁ area₂ area₃ a b c end₁ end₂ room put₁ e₁ put₂ e₂ put₃ =
-    let both : area₂ ≡ splice area₀ 0 (a ++ b) = put₂ ∙ splice-turn area₀ area₁ 0 end₁ a b put₁ (omega arith) (omega arith) in
-    put₃ ∙ splice-turn area₀ area₂ 0 end₂ (a ++ b) c both (omega (arith, length-append a b)) (omega (arith, length-append a b))
+  -- parts that are empty need no turn
+  pub filled-same : (area : List ℕ) (at i k : ℕ) → i ≤ k → join k f ≡ join i f → Filled area at i → Filled area at k
+  filled-same area at i k up same h =
+      record { at-is = rw same (h .at-is); few = omega (arith, h .few); long = h .long; parts = rw same (h .parts) }

@@ -2,7 +2,6 @@
 //
 // `price` asks questions 1 to 6, 8 and 9 of document 01 and writes the plan of the set that it is given. `write_plan`, with
 // `plan_fits`, writes the plan of any set for callers that have read the sheet. Every call is total.
-mod cost;
 mod nearest;
 mod plan;
 
@@ -44,8 +43,8 @@ pub fn price(sheet: &[u8], set: u32, area: &mut [u8]) -> Planned
             if !fits {
                 return Planned::Refused(9);
             }
-            let total = cost::full_cost(sheet, yards, farms, set) as u32;
-            let bytes = write_plan(sheet, yards, farms, set, total, 0, area);
+            let body = plan::put_body(sheet, yards, farms, set, area);
+            let bytes = plan::put_end(body.open_yards, farms, body.cost as u32, 0, area);
             Planned::Written { bytes, moves: 0 }
         }
         Reading::Refused(k) => Planned::Refused(k),

@@ -1,7 +1,14 @@
 // The nearest open yard of a farm: the smallest haul, the lowest number among equals.
 ghost use mathlib.Core.Path.{_≡_};
-ghost use Rattle.price.specs.Nearest.{closer, nearestOn};
+ghost use Prim.Native.Nat.{_+_, _*_, _≤_, min};
+ghost use lib.ListN.{length};
+ghost use Rattle.sets.specs.Members.{risingBelow};
+ghost use Rattle.sheet.specs.Sheet.{records};
+ghost use Rattle.price.specs.Nearest.{closer, amountAt, nearestOn};
 use sheet::Record;
+
+// What the part of a number counts for that begins at bit 32.
+const BIT_32: u64 = 4294967296;
 
 pub struct Nearest {
     pub found: bool,
@@ -30,17 +37,49 @@ pub fn closer(is_open: bool, yard: usize, haul: u32, b: Nearest) -> Nearest
 pub fn nearest_yard(hauls: &[u8], set: u32) -> Nearest
     ensures { λ r. ⌜ r ≡ nearestOn (now (hauls .entry)) set ⌝ }
 {
-    let m = hauls.len() / Record::LEN;
-    let mut b = Nearest {
-        found: false,
-        yard: 0,
-        haul: 0,
-    };
-    let mut i = 0;
-    while i < m {
-        let record = Record::at(hauls, i);
-        b = closer(sets::has(set, i), i, record.amount, b);
-        i += 1;
+    let open = sets::members_below(set, hauls.len() / Record::LEN);
+    let list = open.list;
+    let count = open.count;
+    nearest_of(hauls, set, &list[..count])
+}
+
+// The same for a caller that has the yards of the set listed.
+pub(crate) fn nearest_of(hauls: &[u8], set: u32, yards: &[u8]) -> Nearest
+    requires { ⌜ now yards ≡ risingBelow (min (records (now hauls)) 32) set ⌝ }
+    ensures { λ r. ⌜ r ≡ nearestOn (now (hauls .entry)) set ⌝ }
+{
+    if yards.len() == 0 {
+        return Nearest {
+            found: false,
+            yard: 0,
+            haul: 0,
+        };
     }
-    b
+    let mut least = haul_to(hauls, yards[0]);
+    let mut t = 1;
+    while t < yards.len() {
+        least = lesser(haul_to(hauls, yards[t]), least);
+        t += 1;
+    }
+    Nearest {
+        found: true,
+        yard: (least % BIT_32) as usize,
+        haul: (least / BIT_32) as u32,
+    }
+}
+
+// A yard's haul and its number in one: of two yards the nearer has the lesser, or the lower number where the hauls are equal.
+fn haul_to(hauls: &[u8], yard: u8) -> u64
+    requires { ⌜ 8 * yard + 8 ≤ length (now hauls) ⌝ }
+    ensures { λ r. ⌜ r ≡ 4294967296 * amountAt (now (hauls .entry)) yard + yard ⌝ }
+{
+    let from = Record::LEN * (yard as usize);
+    let record = Record::at(&hauls[from..from + Record::LEN], 0);
+    BIT_32 * (record.amount as u64) + (yard as u64)
+}
+
+fn lesser(a: u64, b: u64) -> u64
+    ensures { λ r. ⌜ r ≡ min a b ⌝ }
+{
+    if a < b { a } else { b }
 }

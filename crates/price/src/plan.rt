@@ -1,14 +1,18 @@
 // Writes the records of a plan to the front of an area that the caller lends.
 ghost use mathlib.Core.Path.{_≡_};
 ghost use Prim.Native.Nat.{_+_, _*_, _≤_, _<_};
+ghost use mathlib.Core.Bool.{true};
 ghost use mathlib.Core.List.{_++_};
 ghost use lib.ListN.{length};
 ghost use Rattle.model.specs.Loops.{join};
+ghost use Rattle.model.specs.Sets.{count, member};
+ghost use Rattle.model.specs.Instance.{nearest, openingCost, serviceCost, totalCost};
+ghost use Rattle.sets.specs.Members.{risingBelow};
 ghost use Rattle.sheet.specs.Records.{recordOf, bytesOf, splice};
-ghost use Rattle.sheet.specs.Sheet.{instanceBy};
+ghost use Rattle.sheet.specs.Sheet.{fee, instanceBy};
 ghost use Rattle.sheet.specs.Shape.{Shape};
 ghost use Rattle.price.specs.Plan.{openRecord, farmRecord, movesRecord, planFits, writing};
-use crate::nearest::nearest_yard;
+use crate::nearest::nearest_of;
 use sheet::MOST_FARMS;
 use sheet::MOST_YARDS;
 use sheet::Record;
@@ -20,6 +24,12 @@ pub const KIND_FARM: u8 = 0x41;
 pub const KIND_TOTAL: u8 = 0x54;
 
 pub const KIND_MOVES: u8 = 0x4D;
+
+// What the records before a plan's last two hold: so many open yards, at a full cost.
+pub(crate) struct Body {
+    pub(crate) open_yards: usize,
+    pub(crate) cost: u64,
+}
 
 // Question 9; of counts that no accepted sheet has the answer is no.
 pub fn plan_fits(yards: usize, farms: usize, room: usize) -> bool
@@ -54,104 +64,127 @@ pub fn write_plan(
     if sheet.len() < Record::LEN * (yards + farms * yards) {
         return 0;
     }
-    let opens_end = put_opens(sheet, yards, farms, set, area);
-    let farms_end = put_farms(sheet, yards, farms, set, area, opens_end);
-    put_end(
-        opens_end / Record::LEN,
-        farms,
-        total,
-        moves,
-        area,
-        farms_end,
-    )
+    let body = put_body(sheet, yards, farms, set, area);
+    put_end(body.open_yards, farms, total, moves, area)
 }
 
-// Writes the record of yard i where it is open, and gives the offset of the next record.
-fn put_open(
-    sheet: &[u8],
-    m: usize,
-    n: usize,
-    set: u32,
-    i: usize,
-    area: &mut [u8],
-    at: usize,
-) -> usize
-    requires { ⌜ Shape (now sheet) m n × (i < m) × (at + 8 ≤ length (now area)) ⌝ }
-    ensures next { λ r. ⌜ r ≡ at + length (openRecord (instanceBy (now (sheet .entry)) m n) set i) ⌝ }
-    ensures area { λ r. ⌜ now (area .exit) ≡ splice (now (area .entry)) at (openRecord (instanceBy (now (sheet .entry)) m n) set i) ⌝ }
+// Writes the records of the open yards to the front of the area and those of the farms behind them, and gives the count of the
+// open yards and the full cost.
+pub(crate) fn put_body(sheet: &[u8], m: usize, n: usize, set: u32, area: &mut [u8]) -> Body
+    requires { ⌜ Shape (now sheet) m n × (8 * (m + n) ≤ length (now area)) ⌝ }
+    ensures open { λ r. ⌜ r .open_yards ≡ count m (member set) ⌝ }
+    ensures cost { λ r. ⌜ r .cost ≡ totalCost (instanceBy (now (sheet .entry)) m n) (member set) ⌝ }
+    ensures area { λ r. ⌜ now (area .exit) ≡ splice (now (area .entry)) 0 (join m (openRecord (instanceBy (now (sheet .entry)) m n) set) ++ join n (farmRecord (instanceBy (now (sheet .entry)) m n) set)) ⌝ }
 {
-    if !sets::has(set, i) {
-        return at;
+    let open = sets::members_below(set, m);
+    let list = open.list;
+    let count = open.count;
+    let fees = put_opens(sheet, m, n, set, &list[..count], area);
+    let from = Record::LEN * count;
+    let hauls = put_farms(sheet, m, n, set, &list[..count], area, from);
+    Body {
+        open_yards: count,
+        cost: fees + hauls,
     }
-    let yard = Record::at(sheet, i);
-    let record = Record::new(KIND_OPEN, i as u8, 0, 0, yard.amount);
-    record.put(area, at);
-    at + Record::LEN
 }
 
-// Writes the records of the open yards to the front of the area, and gives the offset of the next record.
-fn put_opens(sheet: &[u8], m: usize, n: usize, set: u32, area: &mut [u8]) -> usize
-    requires { ⌜ Shape (now sheet) m n × (8 * m ≤ length (now area)) ⌝ }
-    ensures next { λ r. ⌜ r ≡ length (join m (openRecord (instanceBy (now (sheet .entry)) m n) set)) ⌝ }
+// Writes the record of an open yard, and gives its fee.
+fn put_open(sheet: &[u8], m: usize, n: usize, set: u32, yard: u8, area: &mut [u8], at: usize) -> u32
+    requires { ⌜ Shape (now sheet) m n × (yard < m) × (member set yard ≡ true) × (at + 8 ≤ length (now area)) ⌝ }
+    ensures fee { λ r. ⌜ r ≡ fee (now (sheet .entry)) yard ⌝ }
+    ensures area { λ r. ⌜ now (area .exit) ≡ splice (now (area .entry)) at (openRecord (instanceBy (now (sheet .entry)) m n) set yard) ⌝ }
+{
+    let on_sheet = Record::at(sheet, yard as usize);
+    let record = Record::new(KIND_OPEN, yard, 0, 0, on_sheet.amount);
+    record.put(area, at);
+    on_sheet.amount
+}
+
+// Writes the records of the listed yards to the front of the area, and gives their fees.
+fn put_opens(sheet: &[u8], m: usize, n: usize, set: u32, yards: &[u8], area: &mut [u8]) -> u64
+    requires { ⌜ Shape (now sheet) m n × (now yards ≡ risingBelow m set) × (8 * m ≤ length (now area)) ⌝ }
+    ensures exact { λ r. ⌜ r ≡ openingCost (instanceBy (now (sheet .entry)) m n) (member set) ⌝ }
+    ensures small { λ r. ⌜ r ≤ m * 4294967296 ⌝ }
     ensures area { λ r. ⌜ now (area .exit) ≡ splice (now (area .entry)) 0 (join m (openRecord (instanceBy (now (sheet .entry)) m n) set)) ⌝ }
 {
-    let mut at = 0;
-    let mut i = 0;
-    while i < m {
-        at = put_open(sheet, m, n, set, i, area, at);
-        i += 1;
+    let mut total: u64 = 0;
+    let mut t = 0;
+    while t < yards.len() {
+        let fee = put_open(sheet, m, n, set, yards[t], area, Record::LEN * t);
+        total += fee as u64;
+        t += 1;
     }
-    at
+    total
 }
 
-// Writes the record of a farm.
+// Writes the record of a farm, and gives its haul.
 fn put_farm(
     sheet: &[u8],
     m: usize,
     n: usize,
     set: u32,
+    yards: &[u8],
     farm: usize,
     area: &mut [u8],
     at: usize,
-) -> usize
-    requires { ⌜ Shape (now sheet) m n × (farm < n) × (at + 8 ≤ length (now area)) ⌝ }
-    ensures next { λ r. ⌜ r ≡ at + length (farmRecord (instanceBy (now (sheet .entry)) m n) set farm) ⌝ }
+) -> u32
+    requires { ⌜ Shape (now sheet) m n × (now yards ≡ risingBelow m set) × (farm < n) × (at + 8 ≤ length (now area)) ⌝ }
+    ensures haul { λ r. ⌜ r ≡ nearest (instanceBy (now (sheet .entry)) m n) (member set) farm ⌝ }
     ensures area { λ r. ⌜ now (area .exit) ≡ splice (now (area .entry)) at (farmRecord (instanceBy (now (sheet .entry)) m n) set farm) ⌝ }
 {
-    let near = nearest_yard(sheet::farm_stretch(sheet, m, farm), set);
+    let near = nearest_of(sheet::farm_stretch(sheet, m, farm), set, yards);
     let record = Record::new(KIND_FARM, near.yard as u8, farm as u8, 0, near.haul);
     record.put(area, at);
-    at + Record::LEN
+    near.haul
 }
 
-// Writes the records of the farms from an offset on, and gives the offset of the next record.
-fn put_farms(sheet: &[u8], m: usize, n: usize, set: u32, area: &mut [u8], from: usize) -> usize
-    requires { ⌜ Shape (now sheet) m n × (from + 8 * n ≤ length (now area)) ⌝ }
-    ensures next { λ r. ⌜ r ≡ from + length (join n (farmRecord (instanceBy (now (sheet .entry)) m n) set)) ⌝ }
+// Writes the records of the farms from an offset on, and gives the sum of their hauls.
+fn put_farms(
+    sheet: &[u8],
+    m: usize,
+    n: usize,
+    set: u32,
+    yards: &[u8],
+    area: &mut [u8],
+    from: usize,
+) -> u64
+    requires { ⌜ Shape (now sheet) m n × (now yards ≡ risingBelow m set) × (from + 8 * n ≤ length (now area)) ⌝ }
+    ensures exact { λ r. ⌜ r ≡ serviceCost (instanceBy (now (sheet .entry)) m n) (member set) ⌝ }
+    ensures small { λ r. ⌜ r ≤ n * 4294967296 ⌝ }
     ensures area { λ r. ⌜ now (area .exit) ≡ splice (now (area .entry)) from (join n (farmRecord (instanceBy (now (sheet .entry)) m n) set)) ⌝ }
 {
-    let mut at = from;
+    let mut total: u64 = 0;
     let mut farm = 0;
     while farm < n {
-        at = put_farm(sheet, m, n, set, farm, area, at);
+        let haul = put_farm(
+            sheet,
+            m,
+            n,
+            set,
+            yards,
+            farm,
+            area,
+            from + Record::LEN * farm,
+        );
+        total += haul as u64;
         farm += 1;
     }
-    at
+    total
 }
 
-// Writes the records of the total and of the moves at an offset, and gives the offset after them.
-fn put_end(
+// Writes the records of the total and of the moves behind those of the yards and the farms, and gives the offset after them.
+pub(crate) fn put_end(
     open_yards: usize,
     farms: usize,
     total: u32,
     moves: u32,
     area: &mut [u8],
-    at: usize,
 ) -> usize
-    requires { ⌜ (open_yards ≤ 32) × (farms ≤ 128) × (at + 16 ≤ length (now area)) ⌝ }
-    ensures next { λ r. ⌜ r ≡ at + 16 ⌝ }
-    ensures area { λ r. ⌜ now (area .exit) ≡ splice (now (area .entry)) at (bytesOf (recordOf 0x54 open_yards farms 0 total) ++ movesRecord moves) ⌝ }
+    requires { ⌜ (open_yards ≤ 32) × (farms ≤ 128) × (8 * (open_yards + farms + 2) ≤ length (now area)) ⌝ }
+    ensures next { λ r. ⌜ r ≡ 8 * (open_yards + farms + 2) ⌝ }
+    ensures area { λ r. ⌜ now (area .exit) ≡ splice (now (area .entry)) (8 * (open_yards + farms)) (bytesOf (recordOf 0x54 open_yards farms 0 total) ++ movesRecord moves) ⌝ }
 {
+    let at = Record::LEN * (open_yards + farms);
     let sum = Record::new(KIND_TOTAL, open_yards as u8, farms as u8, 0, total);
     let made = Record::new(KIND_MOVES, 0, 0, 0, moves);
     sum.put(area, at);

@@ -3,16 +3,19 @@
 use Prim.Native.Nat.{ℕ, _+_, _-_, _*_, _^_, _≤_, _<_}
 use native.Mathlib.Nat.{sub-zero}
 use native.Mathlib.Omega.{arith}
-use mathlib.Core.Path.{_≡_, refl, sym, ap, ap₂, fun-ext, _∙_}
+use mathlib.Core.Path.{_≡_, refl, sym, ap, ap₂, subst, fun-ext, _∙_}
 use mathlib.Core.Bool.{true}
 use mathlib.Core.List.{List}
-use Rattle.model.specs.Least.{arg}
-use Rattle.model.specs.Search.{better, next, descend, search}
+use Rattle.model.specs.Least.{any, arg}
+use Rattle.model.specs.Sets.{member}
+use Rattle.model.specs.Search.{Among, better, next, descend, search}
 use Rattle.model.specs.Neighbours.{swaps, addDropSwap}
 use Rattle.model.specs.Plans.{openCost, openStart, openSearch, limitedCost, limitedStart, limitedSearch}
 use Rattle.model.proofs.SetLaws.{with-none}
-use Rattle.model.proofs.SearchLaws.{descend-stops, descend-turn}
-use Rattle.model.proofs.PlanLaws.{start-one, start-more, same-start}
+use Rattle.model.proofs.NeighbourLaws.{Move, swapped, among-swap, among-move}
+use Rattle.model.proofs.SearchLaws.{step-among, descend-stops, descend-turn}
+use Rattle.model.proofs.LeastLaws.{any-counted}
+use Rattle.model.proofs.PlanLaws.{open-start, limited-start, start-one, start-more, same-start}
 use Rattle.sheet.specs.Sheet.{instanceBy}
 use Rattle.sets.specs.Within.{with32}
 use Rattle.sets.proofs.SetLaws.{with32-below}
@@ -20,6 +23,7 @@ use Rattle.search.specs.Tables.{tabled, tableCost, Holds, Zeros}
 use Rattle.search.specs.Settling.{priced, neighboursBy, settledAt, openEnd, limitedEnd}
 use Rattle.search.specs.declared.moves.Priced.{Priced}
 use Rattle.search.specs.declared.descent.Settled.{Settled}
+use Rattle.search.specs.declared.moves.Neighbourhood.{Neighbourhood}
 use Rattle.search.specs.declared.moves.Neighbourhood.the-variants.{AddDropSwap, Swap}
 use Rattle.search.proofs.TableLaws.{open-cost-is, limited-cost-is}
 use Rattle.search.proofs.MoveLaws.{set-of, cost-of}
@@ -100,29 +104,60 @@ module _ (cost : ℕ → ℕ) (neighbours : ℕ → List ℕ) where
         ap (λ (k : ℕ). record { set = b .set; cost = k; moves = made }) b-cost
         ∙ ap (settledAt cost) (sym (g .same ∙ descend-stops cost neighbours (start .cost - made) (b .set) made stays))
 
+-- ---- one step
+
+pub step-move : (moves : Neighbourhood) (m : ℕ) (cost : ℕ → ℕ) (b c : Priced) → b ≡ priced cost (b .set)
+    → c ≡ priced cost (next cost (neighboursBy moves m) (b .set)) → c .cost < b .cost → Move m (b .set) (c .set)
+unfolding neighboursBy addDropSwap
+step-move moves m cost b c right e lower =
+    let to = next cost (neighboursBy moves m) (b .set) in
+    let falls : cost to < cost (b .set) = rw (← cost-of cost c to e, ← cost-of cost b (b .set) right) lower in
+    subst (Move m (b .set)) (sym (set-of cost c to e)) (by moves (step-among cost (neighboursBy moves m) (b .set) falls))
+  where
+    by : (moves : Neighbourhood) {x : ℕ} → Among x (neighboursBy moves m (b .set)) → Move m (b .set) x
+    by AddDropSwap h = among-move m (b .set) _ h
+    by Swap h =
+        let r = among-swap m (b .set) _ h in
+        swapped (r .out) (r .into) (r .out-below) (r .out-open) (r .into-below) (r .into-shut) (r .is)
+
+-- ---- the starts are sets of facilities that have one
+
+pub open-start-good : (m n : ℕ) (opening service : List ℕ) (start : Priced) → 1 ≤ m
+    → start ≡ priced (tableCost m n opening service) (openStart (tabled m n opening service))
+    → (start .set < 2 ^ m) × (any m (member (start .set)) ≡ true)
+unfolding tabled
+open-start-good m n opening service start some e =
+    subst (λ (x : ℕ). (x < 2 ^ m) × (any m (member x) ≡ true)) (sym (set-of (tableCost m n opening service) start _ e))
+    (open-start (tabled m n opening service) some)
+
+pub first-yards-good : (m k x : ℕ) → 1 ≤ k → k ≤ m → x ≡ limitedStart k → (x < 2 ^ m) × (any m (member x) ≡ true)
+first-yards-good m k x some few e =
+    let start = limited-start m k few in
+    subst (λ (x : ℕ). (x < 2 ^ m) × (any m (member x) ≡ true)) (sym e)
+    (start .0, any-counted m (member (limitedStart k)) (omega (arith, start .1)))
+
 -- ---- on tables filled from a sheet, the search is that of the sheet's instance
 
-module _ (s : List ℕ) (m n : ℕ) (opening service : List ℕ) (hauls : Holds s m (n * m) service) (start : Priced) (r : Settled) where
+module _ (s : List ℕ) (m n : ℕ) (opening service : List ℕ) (hauls : Holds s m (n * m) service) (r : Settled) where
   start-is : ((set : ℕ) → tableCost m n opening service set ≡ openCost (instanceBy s m n) set)
       → openStart (tabled m n opening service) ≡ openStart (instanceBy s m n)
   unfolding tabled instanceBy tableCost
   start-is agree = same-start (tabled m n opening service) (instanceBy s m n) refl agree
 
-  pub open-reached : Holds s 0 m opening
+  pub open-reached : (start : Priced) → Holds s 0 m opening
       → start ≡ priced (tableCost m n opening service) (openStart (tabled m n opening service))
       → r ≡ settledAt (tableCost m n opening service) (search (tableCost m n opening service) (neighboursBy AddDropSwap m) (start .set))
       → r ≡ openEnd (instanceBy s m n)
   unfolding openEnd neighboursBy openSearch instanceBy tableCost openCost addDropSwap
-  open-reached fees e h =
+  open-reached start fees e h =
       let agree = open-cost-is s m n opening service fees hauls in
       h ∙ ap₂ (λ cost x. settledAt cost (search cost (addDropSwap m) x)) (fun-ext agree)
       (set-of (tableCost m n opening service) start _ e ∙ start-is agree)
 
-  pub limited-reached : (k x : ℕ) → Zeros m opening → x ≡ limitedStart k → start ≡ priced (tableCost m n opening service) x
-      → r ≡ settledAt (tableCost m n opening service) (search (tableCost m n opening service) (neighboursBy Swap m) (start .set))
+  pub limited-reached : (k x : ℕ) → Zeros m opening → x ≡ limitedStart k
+      → r ≡ settledAt (tableCost m n opening service) (search (tableCost m n opening service) (neighboursBy Swap m) x)
       → r ≡ limitedEnd (instanceBy s m n) k
   unfolding limitedEnd neighboursBy limitedSearch instanceBy tableCost limitedCost swaps
-  limited-reached k x free x-is e h =
+  limited-reached k x free x-is h =
       let agree = limited-cost-is s m n opening service free hauls in
-      h ∙ ap₂ (λ cost y. settledAt cost (search cost (swaps m) y)) (fun-ext agree)
-      (set-of (tableCost m n opening service) start x e ∙ x-is)
+      h ∙ ap₂ (λ cost y. settledAt cost (search cost (swaps m) y)) (fun-ext agree) x-is

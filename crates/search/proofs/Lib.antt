@@ -1,6 +1,12 @@
 -- TableLaws: the search's tables. MoveLaws: the best of the moves. DescentLaws: the search loop, and the open start.
 -- PlanningLaws: the cases of the two plans. PromiseLaws: "no move left" and demand 3. MarkedCases: document 01's marked cases.
 pub mod TableLaws
+pub mod ShiftingLaws
+pub mod KeptLaws
+pub mod NearLaws
+pub mod PriceLaws
+pub mod AloneLaws
+pub mod ClientLaws
 pub mod MoveLaws
 pub mod DescentLaws
 pub mod PlanningLaws

@@ -1,12 +1,12 @@
--- Laws of the search's tables: filling one, where the entries lie, and what a turn over facilities or clients adds,
--- and that tables filled from a sheet cost what its instance does.
-use Prim.Native.Nat.{ℕ, _+_, _*_, _≤_, _<_}
-use native.Mathlib.Nat.{zero-add, not-suc-le-zero}
+-- Laws of the search's tables: filling one, what a filled one holds, and that tables filled from a sheet cost what its instance does.
+use Prim.Native.Nat.{ℕ, _+_, _*_, _/_, _%_, _≤_, _<_}
+use native.Mathlib.Nat.{zero-add, mul-zero, not-suc-le-zero, mod-lt, mod-add-div', div-lt-iff-lt-mul}
+use native.Mathlib.Decide.{decLt}
 use native.Mathlib.Omega.{arith}
-use mathlib.Core.Path.{_≡_, refl, sym, ap, ap₂, _∙_}
+use mathlib.Core.Path.{_≡_, refl, sym, ap, ap₂, subst, _∙_}
 use mathlib.Core.Bool.{Bool, false}
 use mathlib.Core.List.{List}
-use lib.ListN.{length, getD, set}
+use lib.ListN.{length, getD, set, replicate, length-replicate, getD-replicate, List·getD-eq-default}
 use lib.Seq.{getD-set-same, getD-set-other}
 use Rattle.model.specs.Loops.{on, sum}
 use Rattle.model.specs.Sets.{member}
@@ -20,12 +20,24 @@ use Rattle.sheet.specs.Records.{recordAt, wholeRecordAt}
 use Rattle.sheet.specs.Sheet.{fee, haul, instanceBy}
 use Rattle.sheet.proofs.RecordLaws.{whole}
 use Rattle.sheet.proofs.ShapeLaws.{few-hauls, row-within}
-use Rattle.price.specs.declared.nearest.Nearest.{Nearest}
-use Rattle.price.specs.Nearest.{near, nearestBelow, closer}
-use Rattle.price.proofs.NearestLaws.{nearest-none, nearest-more}
 use Rattle.search.specs.Tables.{Tables, tabled, tableCost, Holds, Zeros}
+use Rattle.search.specs.Amounts.{Within, Behind, AtMost, Blank}
+use Rattle.search.specs.Prices.{Rows}
+use Rattle.search.specs.Standing.{Fees}
 
 -- ---- filling a table
+
+-- a place more of a table that is filled by f
+pub filled-more : (f : ℕ → ℕ) (i x : ℕ) (table : List ℕ) → i < length table → x ≡ f i → ((k : ℕ) → k < i → getD table k 0 ≡ f k)
+    → (k : ℕ) → k < i + 1 → getD (set table i x) k 0 ≡ f k
+filled-more f i x table room e h k l =
+    up-to (λ k. getD (set table i x) k 0 ≡ f k) i
+    (λ k l. getD-set-other table i k x 0 (λ q. omega arith) ∙ h k l)
+    (getD-set-same table i x 0 room ∙ e) k (omega arith)
+
+-- and nothing changes behind it
+pub behind-more : (i x : ℕ) (before table : List ℕ) → Behind i before table → Behind (i + 1) before (set table i x)
+behind-more i x before table h k l = getD-set-other table i k x 0 (λ q. omega arith) ∙ h k (omega arith)
 
 module _ (s : List ℕ) (from : ℕ) where
   pub holds-none : (table : List ℕ) → Holds s from 0 table
@@ -34,10 +46,88 @@ module _ (s : List ℕ) (from : ℕ) where
   -- a turn, with what its call answers
   pub holds-more : (i : ℕ) (table : List ℕ) (r : Record) → i < length table → 8 * (from + i) + 8 ≤ length s
       → r ≡ wholeRecordAt s (from + i) → Holds s from i table → Holds s from (i + 1) (set table i (r .amount))
-  holds-more i table r room within e h k l =
-      up-to (λ k. getD (set table i (r .amount)) k 0 ≡ recordAt s (from + k) .amount) i
-      (λ k l. getD-set-other table i k (r .amount) 0 (λ q. omega arith) ∙ h k l)
-      (getD-set-same table i (r .amount) 0 room ∙ ap (λ (r : Record). r .amount) (e ∙ whole s (from + i) within)) k (omega arith)
+  holds-more i table r room within e h =
+      filled-more (λ k. recordAt s (from + k) .amount) i (r .amount) table room
+      (ap (λ (r : Record). r .amount) (e ∙ whole s (from + i) within)) h
+
+-- ---- tables for the search
+
+-- before the sheet is read into them
+pub blank : (m n : ℕ) → m ≤ 32 → n ≤ 128 → Blank m n (replicate 32 2000000000) (replicate 4128 0) (replicate 32 0)
+blank m n yards farms =
+    record {
+      opening-room = omega (arith, length-replicate {A = ℕ} 32 2000000000);
+      opening-high = all-same 32 2000000000;
+      service-room = omega (arith, length-replicate {A = ℕ} 4128 0, few-hauls m n yards farms);
+      service-low = λ k. omega (arith, all-same 4128 0 k);
+      sums-room = omega (arith, length-replicate {A = ℕ} 32 0);
+      sums-zero = λ k l. getD-replicate {A = ℕ} 32 k 0 0 l;
+    }
+  where
+    all-same : (n x k : ℕ) → getD (replicate n x) k 0 ≤ x
+    all-same n x k =
+        elim (decLt k n) [
+          | yes l ↦ omega (arith, getD-replicate {A = ℕ} n k x 0 l)
+          | no g ↦ omega (arith, List·getD-eq-default (replicate n x) 0 {n = k} (omega (arith, length-replicate {A = ℕ} n x)))
+        ]
+
+high-by : {m : ℕ} (before opening : List ℕ) → ((i : ℕ) → i < m → getD opening i 0 ≤ 50000000) → AtMost 2000000000 before
+    → Behind m before opening → AtMost 2000000000 opening
+high-by {m} before opening small high behind i =
+    elim (decLt i m) [
+      | yes l ↦ omega (arith, small i l)
+      | no g ↦ omega (arith, behind i (omega arith), high i)
+    ]
+
+-- place k of the rows is that of facility k % m in the row of client k / m
+row-place : (m n k : ℕ) → k < n * m → (k / m < n) × (k % m < m) × (k / m * m + k % m ≡ k)
+row-place m n k l = elim (decLt 0 m) [
+  | yes some ↦ (div-lt-iff-lt-mul some .1 l, mod-lt k some, omega (arith, mod-add-div' k m))
+  | no none ↦ let e : m ≡ 0 = omega arith in absurd (not-suc-le-zero (subst (λ (x : ℕ). k < x) (ap (λ (x : ℕ). n * x) e ∙ mul-zero n) l))
+]
+
+module _ (s : List ℕ) (m n : ℕ) (within : Within s m n) where
+  pub rows-of : (before service : List ℕ) → m ≤ 32 → n ≤ 128 → n * m + 32 ≤ length service → AtMost 1000000 before
+      → Holds s m (n * m) service → Behind (n * m) before service → Rows m n service
+  unfolding haul
+  rows-of before service yards farms room low holds behind =
+      record {
+        few-facilities = yards;
+        few-clients = farms;
+        room = room;
+        within = λ k. elim (decLt k (n * m)) [
+          | yes l ↦
+              let at = row-place m n k l in
+              let place : m + k / m * m + k % m ≡ m + k = omega (arith, at .2) in
+              subst (λ (x : ℕ). x ≤ 1000000) (ap (λ (i : ℕ). recordAt s i .amount) place ∙ sym (holds k l))
+              (within .hauls (k % m) (k / m) (at .1) (at .0))
+          | no g ↦ subst (λ (x : ℕ). x ≤ 1000000) (sym (behind k (omega arith))) (low k)
+        ];
+      }
+
+  pub fees-of : (before opening : List ℕ) → m ≤ 32 → 32 ≤ length opening → AtMost 2000000000 before
+      → Holds s 0 m opening → Behind m before opening → Fees m opening
+  unfolding fee
+  fees-of before opening yards room high holds behind =
+      let small : (i : ℕ) → i < m → getD opening i 0 ≤ 50000000 = λ i l.
+      subst (λ (x : ℕ). x ≤ 50000000) (ap (λ (k : ℕ). recordAt s k .amount) (sym (zero-add i)) ∙ sym (holds i l)) (within .fees i l) in
+      record { room = room; small = small; high = λ i l. high-by before opening small high behind i }
+
+-- without fees
+pub no-fees : (m : ℕ) (before opening : List ℕ) → 32 ≤ length opening → AtMost 2000000000 before → Zeros m opening
+    → Behind m before opening → Fees m opening
+no-fees m before opening room high zeros behind =
+    let small : (i : ℕ) → i < m → getD opening i 0 ≤ 50000000 = λ i l. omega (arith, zeros i l) in
+    record { room = room; small = small; high = λ i l. high-by before opening small high behind i }
+
+pub tables-of : (m n : ℕ) (opening service : List ℕ) → Rows m n service → Fees m opening → Tables m n opening service
+tables-of m n opening service rows fees =
+    record {
+      few-facilities = rows .few-facilities;
+      few-clients = rows .few-clients;
+      opening-room = omega (arith, rows .few-facilities, fees .room);
+      service-room = omega (arith, rows .room);
+    }
 
 -- ---- where the entries lie
 
@@ -49,28 +139,6 @@ module _ (m n : ℕ) (opening service : List ℕ) (t : Tables m n opening servic
   -- the rows come to few entries
   pub row-small : (j : ℕ) → j < n → j * m + m ≤ 4096
   row-small j client = omega (arith, row-within m n j client, few-hauls m n (t .few-facilities) (t .few-clients))
-
--- ---- a loop over the facilities in client j's row
-
--- the nearest of the facilities below i
-unfoldable pub nearestIn : ℕ → List ℕ → ℕ → ℕ → ℕ → Nearest
-nearestIn m service set j i = nearestBelow i (member set) (λ i. getD service (j * m + i) 0)
-
-module _ (m : ℕ) (service : List ℕ) (set j : ℕ) where
-  pub row-none : near false 0 0 ≡ nearestIn m service set j 0
-  unfolding nearestIn
-  row-none = nearest-none (member set) (λ i. getD service (j * m + i) 0)
-
-  -- a turn, with what its calls answer
-  pub row-more : (i : ℕ) (isOpen : Bool) (b : Nearest) → isOpen ≡ member set i → b ≡ nearestIn m service set j i
-      → closer isOpen i (getD service (j * m + i) 0) b ≡ nearestIn m service set j (i + 1)
-  unfolding nearestIn
-  row-more i isOpen b eo eb = rw (eo, eb) (sym (nearest-more (member set) (λ i. getD service (j * m + i) 0) i))
-
-  pub row-all : (n : ℕ) (opening : List ℕ) (b : Nearest) → b ≡ nearestIn m service set j m
-      → b .haul ≡ nearest (tabled m n opening service) (member set) j
-  unfolding nearestIn nearestBelow nearest tabled
-  row-all n opening b e = ap (λ (b : Nearest). b .haul) e
 
 -- ---- a loop over the clients
 

@@ -1,12 +1,12 @@
-// What a set of yards costs by the tables: opening costs, and for each client the least entry of its row.
+// What a set of yards costs by the tables: opening costs, and for each client the cost of its nearest facility.
 ghost use mathlib.Core.Path.{_≡_};
-ghost use Prim.Native.Nat.{_*_, _≤_, _<_};
+ghost use Prim.Native.Nat.{_*_, _/_, _≤_, _<_};
 ghost use lib.ListN.{length, getD};
-ghost use Rattle.model.specs.Loops.{on};
+ghost use Rattle.model.specs.Loops.{on, sum};
 ghost use Rattle.model.specs.Sets.{member};
-ghost use Rattle.model.specs.Instance.{nearest, openingCost, serviceCost};
-ghost use Rattle.search.specs.Tables.{Tables, tabled, tableCost};
-use price::Nearest;
+ghost use Rattle.model.specs.Instance.{openingCost};
+ghost use Rattle.search.specs.Tables.{Tables, tabled};
+ghost use Rattle.search.specs.Adding.{Adding, Added};
 
 fn opening_of(opening: &[u32], set: u32, i: usize) -> u64
     requires { ⌜ i < length (now opening) ⌝ }
@@ -20,7 +20,7 @@ fn opening_of(opening: &[u32], set: u32, i: usize) -> u64
     }
 }
 
-fn opening_cost(opening: &[u32], service: &[u32], m: usize, n: usize, set: u32) -> u64
+pub(crate) fn opening_cost(opening: &[u32], service: &[u32], m: usize, n: usize, set: u32) -> u64
     requires { ⌜ Tables m n (now opening) (now service) ⌝ }
     ensures exact { λ r. ⌜ r ≡ openingCost (tabled m n (now (opening .entry)) (now (service .entry))) (member set) ⌝ }
     ensures small { λ r. ⌜ r ≤ m * 4294967296 ⌝ }
@@ -34,43 +34,37 @@ fn opening_cost(opening: &[u32], service: &[u32], m: usize, n: usize, set: u32) 
     total
 }
 
-// The least entry of client j's row over the set.
-fn service_of(opening: &[u32], service: &[u32], m: usize, n: usize, set: u32, j: usize) -> u64
-    requires { ⌜ Tables m n (now opening) (now service) × (j < n) ⌝ }
-    ensures exact { λ r. ⌜ r ≡ nearest (tabled m n (now (opening .entry)) (now (service .entry))) (member set) j ⌝ }
+fn nearest_cost(firsts: &[u32], j: usize) -> u64
+    requires { ⌜ j < length (now firsts) ⌝ }
+    ensures exact { λ r. ⌜ r ≡ getD (now (firsts .entry)) j 0 / 32 ⌝ }
     ensures small { λ r. ⌜ r ≤ 4294967296 ⌝ }
 {
-    let row = j * m;
-    let mut b = Nearest {
-        found: false,
-        yard: 0,
-        haul: 0,
-    };
-    let mut i = 0;
-    while i < m {
-        b = price::closer(sets::has(set, i), i, service[row + i], b);
-        i += 1;
-    }
-    b.haul as u64
+    (firsts[j] / 32) as u64
 }
 
-fn service_cost(opening: &[u32], service: &[u32], m: usize, n: usize, set: u32) -> u64
-    requires { ⌜ Tables m n (now opening) (now service) ⌝ }
-    ensures exact { λ r. ⌜ r ≡ serviceCost (tabled m n (now (opening .entry)) (now (service .entry))) (member set) ⌝ }
+// What it costs to serve all clients from their nearest facilities.
+pub(crate) fn nearest_costs(firsts: &[u32], n: usize) -> u64
+    requires { ⌜ (n ≤ length (now firsts)) × (n ≤ 128) ⌝ }
+    ensures exact { λ r. ⌜ r ≡ sum n (λ j. getD (now (firsts .entry)) j 0 / 32) ⌝ }
     ensures small { λ r. ⌜ r ≤ n * 4294967296 ⌝ }
 {
     let mut total: u64 = 0;
     let mut j = 0;
     while j < n {
-        total += service_of(opening, service, m, n, set, j);
+        total += nearest_cost(firsts, j);
         j += 1;
     }
     total
 }
 
-pub(crate) fn cost_of(opening: &[u32], service: &[u32], m: usize, n: usize, set: u32) -> u64
-    requires { ⌜ Tables m n (now opening) (now service) ⌝ }
-    ensures { λ r. ⌜ r ≡ tableCost m n (now (opening .entry)) (now (service .entry)) set ⌝ }
+// The cost with each facility added: opening costs of the set and of the facility, and the service cost with it.
+pub(crate) fn add_up(fees: u32, opening: &[u32], added: &[u32], costs: &mut [u32])
+    requires { ⌜ Adding fees (now opening) (now added) (now costs) ⌝ }
+    ensures { λ _. ⌜ Added 32 fees (now (opening .entry)) (now (added .entry)) (now (costs .exit)) ⌝ }
 {
-    opening_cost(opening, service, m, n, set) + service_cost(opening, service, m, n, set)
+    let mut i = 0;
+    while i < 32 {
+        costs[i] = fees + opening[i] + added[i];
+        i += 1;
+    }
 }

@@ -1,15 +1,19 @@
 // The two plans: local search over sets of yards from document 01's starts, by its moves.
 //
 // `open_plan` goes by fees and hauls and adds, drops and swaps yards; `limited_plan` keeps k yards and goes by hauls alone. Both read
-// the sheet once into tables and run the same search on them. Every call is total.
+// the sheet once into tables and run the same search on them, which prices every move by sums that it keeps from move to move.
+// Every call is total.
+mod clients;
 mod cost;
 mod descent;
 mod moves;
+mod near;
+mod prices;
 mod tables;
 
 ghost use mathlib.Core.Path.{_≡_};
 ghost use mathlib.Core.Bool.{true};
-ghost use Prim.Native.Nat.{_*_, _^_, _≤_, _<_};
+ghost use Prim.Native.Nat.{_^_, _≤_, _<_};
 ghost use lib.ListN.{length};
 ghost use Rattle.model.specs.Plans.{limitedStart};
 ghost use Rattle.sheet.specs.Sheet.{instanceBy};
@@ -17,7 +21,7 @@ ghost use Rattle.sheet.specs.Shape.{Shape};
 ghost use Rattle.sheet.specs.Answers.{accepted};
 ghost use Rattle.price.specs.Plan.{question9};
 ghost use Rattle.price.specs.Pricing.{meaning, answer, areaAfter};
-ghost use Rattle.search.specs.Tables.{Zeros};
+ghost use Rattle.search.specs.Amounts.{Within, Blank};
 ghost use Rattle.search.specs.Settling.{openEnd, limitedEnd, planOf};
 ghost use Rattle.search.specs.Planning.{openPlanning, limitedPlanning};
 ghost use Rattle.search.specs.Promises.{OpenPlanSettled, OpenPlanBounded, LimitedPlanSettled, LimitedPlanBounded};
@@ -28,7 +32,11 @@ use sheet::MOST_FARMS;
 use sheet::MOST_YARDS;
 use sheet::Reading;
 
-const MOST_HAULS: usize = MOST_YARDS * MOST_FARMS;
+// Loops over a row pass 32 places, also where it is shorter: as many stand behind the last one.
+const HAULS: usize = MOST_YARDS * MOST_FARMS + MOST_YARDS;
+
+// Stands for the fee of a place that is no yard: no move there looks cheap.
+const NO_YARD: u32 = 2000000000;
 
 // Writes the open plan of a sheet to the front of the area. A refused call leaves the area as it was.
 pub fn open_plan(sheet: &[u8], area: &mut [u8]) -> Planned
@@ -77,12 +85,13 @@ pub fn limited_plan(sheet: &[u8], k: usize, area: &mut [u8]) -> Planned
 
 // The search of the open plan, by the sheet's fees and hauls.
 fn open_search(sheet: &[u8], m: usize, n: usize) -> Settled
-    requires { ⌜ Shape (now sheet) m n × (1 ≤ m) ⌝ }
+    requires { ⌜ Shape (now sheet) m n × (1 ≤ m) × Within (now sheet) m n ⌝ }
     ensures { λ r. ⌜ r ≡ openEnd (instanceBy (now (sheet .entry)) m n) ⌝ }
 {
-    let mut opening = [0u32; MOST_YARDS];
-    let mut service = [0u32; MOST_HAULS];
-    open_search_on(sheet, m, n, &mut opening, &mut service)
+    let mut opening = [NO_YARD; MOST_YARDS];
+    let mut service = [0u32; HAULS];
+    let mut sums = [0u32; MOST_YARDS];
+    open_search_on(sheet, m, n, &mut opening, &mut service, &mut sums)
 }
 
 // The same, on tables that are lent.
@@ -92,14 +101,25 @@ fn open_search_on(
     n: usize,
     opening: &mut [u32],
     service: &mut [u32],
+    sums: &mut [u32],
 ) -> Settled
-    requires { ⌜ Shape (now sheet) m n × (1 ≤ m) × (m ≤ length (now opening)) × (n * m ≤ length (now service)) ⌝ }
+    requires { ⌜ Shape (now sheet) m n × (1 ≤ m) × Within (now sheet) m n × Blank m n (now opening) (now service) (now sums) ⌝ }
     ensures { λ r. ⌜ r ≡ openEnd (instanceBy (now (sheet .entry)) m n) ⌝ }
 {
     tables::fill(sheet, 0, m, opening);
     tables::fill(sheet, m, n * m, service);
-    let start = descent::cheapest_yard(opening, service, m, n);
-    descent::settle(Neighbourhood::AddDropSwap, opening, service, m, n, start)
+    prices::add_rows(service, m, n, sums);
+    let start = descent::cheapest_yard(opening, service, m, n, sums);
+    let set = start.set;
+    descent::settle(
+        Neighbourhood::AddDropSwap,
+        opening,
+        service,
+        m,
+        n,
+        set,
+        sums,
+    )
 }
 
 // Yards 0 to k - 1.
@@ -112,12 +132,13 @@ fn first_yards(k: usize) -> u32
 
 // The search of the limited plan, by the sheet's hauls: every opening cost is 0.
 fn limited_search(sheet: &[u8], m: usize, n: usize, k: usize) -> Settled
-    requires { ⌜ Shape (now sheet) m n × (k ≤ m) ⌝ }
+    requires { ⌜ Shape (now sheet) m n × (1 ≤ k) × (k ≤ m) × Within (now sheet) m n ⌝ }
     ensures { λ r. ⌜ r ≡ limitedEnd (instanceBy (now (sheet .entry)) m n) k ⌝ }
 {
-    let opening = [0u32; MOST_YARDS];
-    let mut service = [0u32; MOST_HAULS];
-    limited_search_on(sheet, m, n, k, &opening, &mut service)
+    let mut opening = [NO_YARD; MOST_YARDS];
+    let mut service = [0u32; HAULS];
+    let mut sums = [0u32; MOST_YARDS];
+    limited_search_on(sheet, m, n, k, &mut opening, &mut service, &mut sums)
 }
 
 // The same, on tables that are lent.
@@ -126,15 +147,18 @@ fn limited_search_on(
     m: usize,
     n: usize,
     k: usize,
-    opening: &[u32],
+    opening: &mut [u32],
     service: &mut [u32],
+    sums: &mut [u32],
 ) -> Settled
-    requires { ⌜ Shape (now sheet) m n × (k ≤ m) × (m ≤ length (now opening)) × Zeros m (now opening) × (n * m ≤ length (now service)) ⌝ }
+    requires { ⌜ Shape (now sheet) m n × (1 ≤ k) × (k ≤ m) × Within (now sheet) m n × Blank m n (now opening) (now service) (now sums) ⌝ }
     ensures { λ r. ⌜ r ≡ limitedEnd (instanceBy (now (sheet .entry)) m n) k ⌝ }
 {
+    tables::clear(m, opening);
     tables::fill(sheet, m, n * m, service);
-    let start = moves::priced_set(opening, service, m, n, first_yards(k));
-    descent::settle(Neighbourhood::Swap, opening, service, m, n, start)
+    prices::add_rows(service, m, n, sums);
+    let start = first_yards(k);
+    descent::settle(Neighbourhood::Swap, opening, service, m, n, start, sums)
 }
 
 // Writes the plan of the set that a search settled on; the moves are those made.

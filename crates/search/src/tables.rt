@@ -1,18 +1,33 @@
 // The search's tables: amounts of the sheet in flat arrays, so that the search reads no record twice.
 ghost use Prim.Native.Nat.{_+_, _*_, _≤_};
 ghost use lib.ListN.{length};
-ghost use Rattle.search.specs.Tables.{Holds};
+ghost use Rattle.search.specs.Tables.{Holds, Zeros};
+ghost use Rattle.search.specs.Amounts.{Behind};
 use sheet::Record;
 
 // Fills the front of a table with the amounts of so many records, from one on.
 pub(crate) fn fill(sheet: &[u8], from: usize, count: usize, table: &mut [u32])
     requires { ⌜ (8 * (from + count) ≤ length (now sheet)) × (count ≤ length (now table)) ⌝ }
-    ensures { λ _. ⌜ Holds (now (sheet .entry)) from count (now (table .exit)) ⌝ }
+    ensures front { λ _. ⌜ Holds (now (sheet .entry)) from count (now (table .exit)) ⌝ }
+    ensures behind { λ _. ⌜ Behind count (now (table .entry)) (now (table .exit)) ⌝ }
 {
     let mut i = 0;
     while i < count {
         let record = Record::at(sheet, from + i);
         table[i] = record.amount;
+        i += 1;
+    }
+}
+
+// Fills the front of a table with so many zeros.
+pub(crate) fn clear(count: usize, table: &mut [u32])
+    requires { ⌜ count ≤ length (now table) ⌝ }
+    ensures front { λ _. ⌜ Zeros count (now (table .exit)) ⌝ }
+    ensures behind { λ _. ⌜ Behind count (now (table .entry)) (now (table .exit)) ⌝ }
+{
+    let mut i = 0;
+    while i < count {
+        table[i] = 0;
         i += 1;
     }
 }

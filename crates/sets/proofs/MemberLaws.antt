@@ -1,5 +1,5 @@
 -- Laws of the listed numbers of a set: filling the list, what its places hold, and that no number between two of them is in the set.
-use Prim.Native.Nat.{ℕ, zero, suc, _+_, _-_, _≤_, _<_}
+use Prim.Native.Nat.{ℕ, zero, suc, _+_, _-_, _≤_, _<_, min}
 use native.Mathlib.Nat.{le-refl, le-step, le-of-lt, lt-suc-self, not-suc-le-zero, min-eq-left}
 use native.Mathlib.Numerals.{add-one}
 use native.Mathlib.Omega.{arith}
@@ -9,9 +9,9 @@ use mathlib.Core.Logic.{inl, inr}
 use mathlib.Core.Bool.{Bool, true, false}
 use mathlib.Core.List.{List, [], _∷_, _++_, append-nil}
 use lib.ListN.{length, getD, set as put, take, replicate, length-append, length-replicate, List·getD-append}
-use lib.Seq.{set-append-seam, getD-append-seam, append-snoc, take-append-seam}
-use Rattle.model.specs.Loops.{on, join}
-use Rattle.model.specs.Sets.{member}
+use lib.Seq.{set-append-seam, getD-append-seam, append-snoc, take-append-seam, length-take-le}
+use Rattle.model.specs.Loops.{on, sum, join}
+use Rattle.model.specs.Sets.{count, member}
 use Rattle.model.proofs.Bools.{cases}
 use Rattle.model.proofs.LoopLaws.{last-or}
 use Rattle.model.proofs.GapLaws.{NoneFrom}
@@ -40,15 +40,23 @@ rising-few set (suc m) =
     (λ e. omega (arith, ap length (rising-in set m e), length-append (risingBelow m set) (m ∷ []), rising-few set m))
     (λ e. omega (arith, ap length (rising-out set m e), rising-few set m))
 
+pub rising-count : (set m : ℕ) → length (risingBelow m set) ≡ count m (member set)
+unfolding sum
+rising-count set zero = ap length (rising-none set)
+rising-count set (suc m) =
+    cases (member set m)
+    (λ e. rw e (omega (arith, ap length (rising-in set m e), length-append (risingBelow m set) (m ∷ []), rising-count set m)))
+    (λ e. rw e (omega (arith, ap length (rising-out set m e), rising-count set m)))
+
 -- ---- filling the list
 
 abbrev pub members : List ℕ → ℕ → Members
 members list count = record { list = list; count = count }
 
--- 32 places whose front holds the numbers
 abbrev zeros : ℕ → List ℕ
 zeros n = replicate n 0
 
+-- 32 places whose front holds the numbers
 abbrev places : List ℕ → List ℕ
 places numbers = numbers ++ zeros (32 - length numbers)
 
@@ -129,7 +137,8 @@ pub record Last (set m p : ℕ) : Type 0 where
   pub none : NoneFrom (member set) p m
 
 -- what holds at each place of a list and of a number behind it
-behind : (Q : ℕ → ℕ → Type 0) (xs : List ℕ) (x : ℕ) → ((t : ℕ) → t < length xs → Q (passed xs t) (getD xs t 0)) → Q (passed xs (length xs)) x
+behind : (Q : ℕ → ℕ → Type 0) (xs : List ℕ) (x : ℕ)
+    → ((t : ℕ) → t < length xs → Q (passed xs t) (getD xs t 0)) → Q (passed xs (length xs)) x
     → (t : ℕ) → t < length (xs ++ (x ∷ [])) → Q (passed (xs ++ (x ∷ [])) t) (getD (xs ++ (x ∷ [])) t 0)
 behind Q xs x h q t l =
     elim (decLt t (length xs)) [
@@ -177,6 +186,49 @@ rising set (suc m) =
     (λ e. rw (rising-in set m e) (rises-in set m (risingBelow m set) (rising set m) e))
     (λ e. rw (rising-out set m e) (rises-out set m (risingBelow m set) (rising set m) e))
 
+-- ---- for callers that pass the numbers on as a list
+
+module _ (set m : ℕ) (xs : List ℕ) (e : xs ≡ risingBelow m set) where
+  -- each is the next number of the set
+  pub listed-next : (t : ℕ) → t < length xs → Next set m (passed xs t) (getD xs t 0)
+  listed-next = rw e (rising set m .next)
+
+  -- and none comes after the last
+  pub listed-last : Last set m (passed xs (length xs))
+  listed-last = rw e (rising set m .last)
+
+-- the part of the list that a caller takes
+module _ (set m : ℕ) (r : Members) (e : r ≡ membersBelow m set) where
+  places-32 : length (r .list) ≡ 32
+  unfolding membersBelow listing
+  places-32 =
+      let xs = risingBelow (min m 32) set in
+      rw e (omega (arith, length-append xs (zeros (32 - length xs)), length-replicate {A = ℕ} (32 - length xs) 0, rising-few set (min m 32)))
+
+  pub part-room : r .count ≤ length (r .list)
+  unfolding membersBelow listing
+  part-room = rw places-32 (rw e (omega (arith, rising-few set (min m 32))))
+
+  pub part-small : r .count ≤ 32
+  part-small = omega (arith, part-room, places-32)
+
+  pub part-length : r .count ≡ length (take (r .count) (r .list))
+  part-length = sym (length-take-le (r .count) (r .list) part-room)
+
+  pub part-is : take (r .count) (r .list) ≡ risingBelow (min m 32) set
+  unfolding membersBelow listing
+  part-is = let xs = risingBelow (min m 32) set in rw e (take-append-seam xs (zeros (32 - length xs)))
+
+  module _ (few : m ≤ 32) where
+    pub part-numbers : take (r .count) (r .list) ≡ risingBelow m set
+    part-numbers = part-is ∙ ap (λ k. risingBelow k set) (min-eq-left few)
+
+    pub part-count : r .count ≡ count m (member set)
+    part-count = part-length ∙ ap length part-numbers ∙ rising-count set m
+
+    pub part-few : r .count ≤ m
+    part-few = omega (arith, part-length, ap length part-numbers, rising-few set m)
+
 -- ---- for callers, of m yards
 
 module _ (set m : ℕ) (few : m ≤ 32) where
@@ -189,17 +241,14 @@ module _ (set m : ℕ) (few : m ≤ 32) where
   count-few = rw listed (rising-few set m)
 
   pub list-length : length (membersBelow m set .list) ≡ 32
-  unfolding listing
-  list-length =
-      rw listed (let xs = risingBelow m set in omega (arith, length-append xs (zeros (32 - length xs)), length-replicate {A = ℕ} (32 - length xs) 0, rising-few set m))
+  list-length = places-32 set m (membersBelow m set) refl
 
-  -- the first places of the list are the set's numbers
   pub list-front : take (membersBelow m set .count) (membersBelow m set .list) ≡ risingBelow m set
-  unfolding listing
-  list-front = rw listed (take-append-seam (risingBelow m set) (zeros (32 - length (risingBelow m set))))
+  list-front = part-numbers set m (membersBelow m set) refl few
 
-  -- each of them is the next number of the set
-  pub member-at : (t : ℕ) → t < membersBelow m set .count → Next set m (passed (membersBelow m set .list) t) (getD (membersBelow m set .list) t 0)
+  -- each place is the next number of the set
+  pub member-at : (t : ℕ) → t < membersBelow m set .count
+      → Next set m (passed (membersBelow m set .list) t) (getD (membersBelow m set .list) t 0)
   unfolding listing
   member-at = rw listed (λ t k. let xs = risingBelow m set in
       let ys = zeros (32 - length xs) in

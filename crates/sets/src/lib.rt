@@ -43,7 +43,7 @@ pub fn removed(set: u32, i: usize) -> u32
 
 // The yards of a set by number: the first `count` places of the list.
 pub struct Members {
-    pub list: [u8; 32],
+    pub list: [u8; BITS],
     pub count: usize,
 }
 
@@ -59,7 +59,7 @@ pub fn members_below(set: u32, m: usize) -> Members
     ensures { λ r. ⌜ r ≡ membersBelow m set ⌝ }
 {
     let end = within(m);
-    let mut list = [0u8; 32];
+    let mut list = [0u8; BITS];
     let mut count = 0;
     let mut i = 0;
     while i < end {

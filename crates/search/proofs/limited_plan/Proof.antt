@@ -45,8 +45,8 @@ returns-3 c = let low = c .before .before in
 limited-search-requires : tie.Need-limited-search-requires
 limited-search-requires c κs = let low = c .before .before in
     let arm = low .before .before .before in
-    let f = accepts _ _ _ (sym (arm .before .before .read .ensures) ∙ ap meaning (arm .yards .given .1)) .has in
-    (shape-of f, low .if2 .left)
+    let all = accepts _ _ _ (sym (arm .before .before .read .ensures) ∙ ap meaning (arm .yards .given .1)) in
+    (shape-of (all .has), low .before .if1 .left, low .if2 .left, record { fees = all .fees; hauls = all .hauls-within })
 
 write-requires : tie.Need-write-requires
 write-requires c κs = let passed = c .before .before in

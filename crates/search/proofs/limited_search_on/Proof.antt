@@ -1,9 +1,13 @@
 -- `limited_search_on` meets its contract: the tables hold the sheet's hauls and zeros, so the search on them goes by hauls alone.
-use Rattle.search.proofs.MoveLaws.{ready}
-use Rattle.search.proofs.DescentLaws.{limited-reached}
+use native.Mathlib.Omega.{arith}
+use Rattle.search.proofs.TableLaws.{rows-of, no-fees}
+use Rattle.search.proofs.DescentLaws.{first-yards-good, limited-reached}
 use borrow.Author.Needs.{needs}
 use Rattle.search.proofs.limited_search_on.Statement.{statement}
 use Rattle.search.proofs.limited_search_on.Tie as tie
+
+clear-requires : tie.Need-clear-requires
+clear-requires c κs = search needs
 
 mul-fill : tie.Need-mul-fill
 mul-fill c = search needs
@@ -11,31 +15,61 @@ mul-fill c = search needs
 fill-requires : tie.Need-fill-requires
 fill-requires c κs = search needs
 
+add-rows-requires : tie.Need-add-rows-requires
+add-rows-requires c κs = let start = c .before .before .before .before .before .before .before .before .before .before .before .before .before .before in
+    let a = start .args in
+    let shape = start .pre .0 in
+    let within = start .pre .3 in
+    let blank = start .pre .4 in (
+      rows-of (a .sheet .now) (a .m) (a .n) within (a .service .now) _ (shape .few-yards) (shape .few-farms)
+          (omega (arith, blank .service-room, c .before .before .before .service .given)) (blank .service-low) (c .before .before .before .before .fill .ensures .0) (c .before .before .before .before .fill .ensures .1),
+      blank .sums-room,
+      blank .sums-zero,
+    )
+
 first-yards-requires : tie.Need-first-yards-requires
 first-yards-requires c κs = search needs
 
-priced-set-requires : tie.Need-priced-set-requires
-priced-set-requires c κs = search needs
-
 settle-requires : tie.Need-settle-requires
-settle-requires c κs = ready _ _ _ _ _ _ (search needs) (c .before .priced-set .ensures)
+settle-requires c κs = let start = c .before .before .before .before .before .before .before .before .before .before .before .before .before .before .before .before .before .before .before .before .before in
+    let a = start .args in
+    let shape = start .pre .0 in
+    let within = start .pre .3 in
+    let blank = start .pre .4 in
+    let good = first-yards-good (a .m) (a .k) _ (start .pre .1) (start .pre .2) (c .before .before .before .first-yards .ensures) in (
+      rows-of (a .sheet .now) (a .m) (a .n) within (a .service .now) _ (shape .few-yards) (shape .few-farms)
+          (omega (arith, blank .service-room, c .before .before .before .before .before .before .before .before .before .before .service .given)) (blank .service-low) (c .before .before .before .before .before .before .before .before .before .before .before .fill .ensures .0) (c .before .before .before .before .before .before .before .before .before .before .before .fill .ensures .1),
+      no-fees (a .m) (a .opening .now) _ (omega (arith, blank .opening-room, c .before .before .before .before .before .before .before .before .before .before .before .before .before .before .opening .given)) (blank .opening-high)
+          (c .before .before .before .before .before .before .before .before .before .before .before .before .before .before .before .clear .ensures .0) (c .before .before .before .before .before .before .before .before .before .before .before .before .before .before .before .clear .ensures .1),
+      good .0,
+      good .1,
+      omega (arith, blank .sums-room, c .before .before .before .before .before .sums .given),
+      c .before .before .before .before .before .before .add-rows .ensures,
+    )
 
 same-length : tie.Need-same-length
 same-length c = search needs
 
+same-length-2 : tie.Need-same-length-2
+same-length-2 c = search needs
+
+same-length-3 : tie.Need-same-length-3
+same-length-3 c = search needs
+
 returns : tie.Need-returns
-returns c = let start = c .before .before in
-    let hauls = start .before .before .before .before .before in
-    limited-reached _ _ _ _ _ (hauls .fill .ensures) _ _ _ _ (hauls .before .before .before .before .before .pre .3) (start .before .first-yards .ensures) (start .priced-set .ensures) (c .settle .ensures)
+returns c = limited-reached _ _ _ _ _ (c .before .before .before .before .before .before .before .before .before .before .before .before .before .before .fill .ensures .0) _ _ _ (c .before .before .before .before .before .before .before .before .before .before .before .before .before .before .before .before .before .before .clear .ensures .0) (c .before .before .before .before .before .before .first-yards .ensures) (c .before .before .settle .ensures)
 
 pub limited-search-on-spec : {M : Type 1} → statement M
 limited-search-on-spec =
     tie.close
     (tie.spec
+    clear-requires
     mul-fill
     fill-requires
+    add-rows-requires
     first-yards-requires
-    priced-set-requires
     settle-requires
     same-length
+    same-length-2
+    same-length-3
     returns)

@@ -30,8 +30,8 @@ returns c = let arm = c .before .before .before in
 
 open-search-requires : tie.Need-open-search-requires
 open-search-requires c κs = let arm = c .before .before .before in
-    let f = accepts _ _ _ (sym (arm .before .before .read .ensures) ∙ ap meaning (arm .yards .given .1)) .has in
-    (shape-of f, f .some-yards)
+    let all = accepts _ _ _ (sym (arm .before .before .read .ensures) ∙ ap meaning (arm .yards .given .1)) in
+    (shape-of (all .has), all .has .some-yards, record { fees = all .fees; hauls = all .hauls-within })
 
 write-requires : tie.Need-write-requires
 write-requires c κs = let passed = c .before .before in

@@ -1,6 +1,7 @@
 -- `open_search_on` meets its contract: the tables hold the sheet's amounts, so the search on them is that of the sheet's instance.
-use Rattle.search.proofs.MoveLaws.{ready}
-use Rattle.search.proofs.DescentLaws.{open-reached}
+use native.Mathlib.Omega.{arith}
+use Rattle.search.proofs.TableLaws.{rows-of, fees-of}
+use Rattle.search.proofs.DescentLaws.{open-start-good, open-reached}
 use borrow.Author.Needs.{needs}
 use Rattle.search.proofs.open_search_on.Statement.{statement}
 use Rattle.search.proofs.open_search_on.Tie as tie
@@ -14,11 +15,50 @@ mul-fill c = search needs
 fill-requires-2 : tie.Need-fill-requires-2
 fill-requires-2 c κs = search needs
 
+add-rows-requires : tie.Need-add-rows-requires
+add-rows-requires c κs = let start = c .before .before .before .before .before .before .before .before .before .before .before .before .before .before in
+    let a = start .args in
+    let shape = start .pre .0 in
+    let within = start .pre .2 in
+    let blank = start .pre .3 in (
+      rows-of (a .sheet .now) (a .m) (a .n) within (a .service .now) _ (shape .few-yards) (shape .few-farms)
+          (omega (arith, blank .service-room, c .before .before .before .service .given)) (blank .service-low) (c .before .before .before .before .fill2 .ensures .0) (c .before .before .before .before .fill2 .ensures .1),
+      blank .sums-room,
+      blank .sums-zero,
+    )
+
 cheapest-yard-requires : tie.Need-cheapest-yard-requires
-cheapest-yard-requires c κs = search needs
+cheapest-yard-requires c κs = let start = c .before .before .before .before .before .before .before .before .before .before .before .before .before .before .before .before .before .before .before .before in
+    let a = start .args in
+    let shape = start .pre .0 in
+    let within = start .pre .2 in
+    let blank = start .pre .3 in (
+      rows-of (a .sheet .now) (a .m) (a .n) within (a .service .now) _ (shape .few-yards) (shape .few-farms)
+          (omega (arith, blank .service-room, c .before .before .before .before .before .before .before .before .before .service .given)) (blank .service-low) (c .before .before .before .before .before .before .before .before .before .before .fill2 .ensures .0) (c .before .before .before .before .before .before .before .before .before .before .fill2 .ensures .1),
+      fees-of (a .sheet .now) (a .m) (a .n) within (a .opening .now) _ (shape .few-yards)
+          (omega (arith, blank .opening-room, c .before .before .before .before .before .before .before .before .before .before .before .before .before .opening .given)) (blank .opening-high) (c .before .before .before .before .before .before .before .before .before .before .before .before .before .before .fill .ensures .0) (c .before .before .before .before .before .before .before .before .before .before .before .before .before .before .fill .ensures .1),
+      start .pre .1,
+      omega (arith, blank .sums-room, c .before .before .before .before .sums .given),
+      c .before .before .before .before .before .add-rows .ensures,
+    )
 
 settle-requires : tie.Need-settle-requires
-settle-requires c κs = ready _ _ _ _ _ _ (search needs) (c .before .before .cheapest-yard .ensures)
+settle-requires c κs = let start = c .before .before .before .before .before .before .before .before .before .before .before .before .before .before .before .before .before .before .before .before .before .before .before .before in
+    let a = start .args in
+    let shape = start .pre .0 in
+    let within = start .pre .2 in
+    let blank = start .pre .3 in
+    let cheapest = c .before .before .before .cheapest-yard in
+    let good = open-start-good _ _ _ _ (cheapest .result) (start .pre .1) (cheapest .ensures) in (
+      rows-of (a .sheet .now) (a .m) (a .n) within (a .service .now) _ (shape .few-yards) (shape .few-farms)
+          (omega (arith, blank .service-room, c .before .before .before .before .before .before .before .before .before .before .before .before .before .service .given)) (blank .service-low) (c .before .before .before .before .before .before .before .before .before .before .before .before .before .before .fill2 .ensures .0) (c .before .before .before .before .before .before .before .before .before .before .before .before .before .before .fill2 .ensures .1),
+      fees-of (a .sheet .now) (a .m) (a .n) within (a .opening .now) _ (shape .few-yards)
+          (omega (arith, blank .opening-room, c .before .before .before .before .before .before .before .before .before .before .before .before .before .before .before .before .before .opening .given)) (blank .opening-high) (c .before .before .before .before .before .before .before .before .before .before .before .before .before .before .before .before .before .before .fill .ensures .0) (c .before .before .before .before .before .before .before .before .before .before .before .before .before .before .before .before .before .before .fill .ensures .1),
+      good .0,
+      good .1,
+      omega (arith, blank .sums-room, c .before .before .before .before .before .before .before .before .sums .given),
+      c .before .before .before .before .before .before .before .before .before .add-rows .ensures,
+    )
 
 same-length : tie.Need-same-length
 same-length c = search needs
@@ -26,11 +66,12 @@ same-length c = search needs
 same-length-2 : tie.Need-same-length-2
 same-length-2 c = search needs
 
+same-length-3 : tie.Need-same-length-3
+same-length-3 c = search needs
+
 returns : tie.Need-returns
-returns c = let start = c .before .before .before in
-    let hauls = start .before .before .before .before .before in
-    let fees = hauls .before .before .before .before in
-    open-reached _ _ _ _ _ (hauls .fill2 .ensures) _ _ (fees .fill .ensures) (start .cheapest-yard .ensures) (c .settle .ensures)
+returns c = let cheapest = c .before .before .before .before .before .before .cheapest-yard in
+    open-reached _ _ _ _ _ (c .before .before .before .before .before .before .before .before .before .before .before .before .before .before .before .before .before .fill2 .ensures .0) _ (cheapest .result) (c .before .before .before .before .before .before .before .before .before .before .before .before .before .before .before .before .before .before .before .before .before .fill .ensures .0) (cheapest .ensures) (c .before .before .settle .ensures)
 
 pub open-search-on-spec : {M : Type 1} → statement M
 open-search-on-spec =
@@ -39,8 +80,10 @@ open-search-on-spec =
     fill-requires
     mul-fill
     fill-requires-2
+    add-rows-requires
     cheapest-yard-requires
     settle-requires
     same-length
     same-length-2
+    same-length-3
     returns)

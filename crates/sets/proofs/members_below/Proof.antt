@@ -28,10 +28,12 @@ kept-requires : tie.Need-kept-requires Inv-loop μ-loop
 kept-requires c κs = search needs
 
 cast-list : tie.Need-cast-list Inv-loop μ-loop
-cast-list c = let l = c .before .before .before .loop in omega (arith, c .kept .ensures, on-le (c .before .has .result) (l .i), c .before .before .before .before .within .ensures)
+cast-list c = let l = c .before .before .before .loop in
+    omega (arith, c .kept .ensures, on-le (c .before .has .result) (l .i), c .before .before .before .before .within .ensures)
 
 array-write-list : tie.Need-array-write-list Inv-loop μ-loop
-array-write-list c = let l = c .before .before .before .loop in count-room _ (l .i) (l .list) (l .count) (omega (arith, c .before .before .before .before .within .ensures)) (l .inv .1)
+array-write-list c = let l = c .before .before .before .loop in
+    count-room _ (l .i) (l .list) (l .count) (omega (arith, c .before .before .before .before .within .ensures)) (l .inv .1)
 
 kept-requires-2 : tie.Need-kept-requires-2 Inv-loop μ-loop
 kept-requires-2 c κs = search needs
@@ -48,8 +50,11 @@ loop-less : tie.Need-loop-less Inv-loop μ-loop
 loop-less c = omega arith
 
 loop-again : tie.Need-loop-again Inv-loop μ-loop
-loop-again c = let l = c .before .before .before .before .loop in
-    (omega arith, listing-more _ (l .i) (l .list) (l .count) (omega (arith, c .before .before .before .before .before .within .ensures)) (l .inv .1) _ (c .before .before .has .ensures) _ _ (c .before .kept .ensures) (c .kept2 .ensures))
+loop-again c = let l = c .before .before .before .before .loop in (
+  omega arith,
+  listing-more _ (l .i) (l .list) (l .count) (omega (arith, c .before .before .before .before .before .within .ensures)) (l .inv .1)
+      _ (c .before .before .has .ensures) _ _ (c .before .kept .ensures) (c .kept2 .ensures),
+)
 
 returns : tie.Need-returns Inv-loop μ-loop
 unfolding membersBelow

@@ -1,60 +1,30 @@
--- `nearest_yard` meets its contract. The invariant: b is the nearest of the yards passed.
-use mathlib.Core.Path.{_≡_, _∙_}
-use Prim.Native.Nat.{_≤_, _-_}
-use native.Mathlib.Omega.{arith}
+-- `nearest_yard` meets its contract: the set's yards on the stretch are listed.
+use Rattle.sets.proofs.MemberLaws.{part-room, part-length, part-is}
 use borrow.Author.Needs.{needs}
-use Rattle.model.specs.Sets.{member}
-use Rattle.sheet.specs.Sheet.{records}
-use Rattle.price.specs.Nearest.{nearestBelow, amountAt, nearestOn}
-use Rattle.price.proofs.NearestLaws.{nearest-none, nearest-turn}
 use Rattle.price.proofs.nearest.nearest_yard.Statement.{statement}
 use Rattle.price.proofs.nearest.nearest_yard.Tie as tie
 
-abbrev Inv-loop : tie.InvT-loop
-Inv-loop hauls set m b₀ i₀ b i = (i ≤ m) × (b ≡ nearestBelow i (member set) (amountAt hauls))
+members-below-requires : tie.Need-members-below-requires
+members-below-requires c κs = search needs
 
-abbrev μ-loop : tie.MeasureT-loop
-μ-loop hauls set m b₀ i₀ b i = m - i
+array-share-prefix-list : tie.Need-array-share-prefix-list
+array-share-prefix-list c = part-room _ _ _ (c .before .members-below .ensures)
 
-loop-holds : tie.Need-loop-holds Inv-loop μ-loop
-loop-holds c = (omega arith, nearest-none _ _)
+slice-aggregate-nearest-of : tie.Need-slice-aggregate-nearest-of
+slice-aggregate-nearest-of c = part-length _ _ _ (c .before .before .members-below .ensures)
 
-at-requires : tie.Need-at-requires Inv-loop μ-loop
-at-requires c κs = search needs
+nearest-of-requires : tie.Need-nearest-of-requires
+nearest-of-requires c κs = part-is _ _ _ (c .before .before .members-below .ensures)
 
-has-requires : tie.Need-has-requires Inv-loop μ-loop
-has-requires c κs = search needs
-
-closer-requires : tie.Need-closer-requires Inv-loop μ-loop
-closer-requires c κs = search needs
-
-add-i : tie.Need-add-i Inv-loop μ-loop
-add-i c = omega arith
-
-loop-less : tie.Need-loop-less Inv-loop μ-loop
-loop-less c = omega arith
-
-loop-again : tie.Need-loop-again Inv-loop μ-loop
-loop-again c = let turn = c .before .before .before in
-    let more = nearest-turn _ _ _ _ _ _ (turn .loop-test .taken) (c .before .before .at .ensures) (c .before .has .ensures) (turn .before .loop .inv .1) in
-    (omega arith, c .closer .ensures ∙ more)
-
-returns : tie.Need-returns Inv-loop μ-loop
-unfolding nearestOn
-returns c = let e : c .before .loop .i ≡ records (c .before .before .before .args .hauls .now) = omega arith in
-    rw e at (c .before .loop .inv .1)
+returns : tie.Need-returns
+returns c = search needs
 
 pub nearest-yard-spec : {M : Type 1} → statement M
 nearest-yard-spec =
     tie.close
     (tie.spec
-    Inv-loop
-    μ-loop
-    loop-holds
-    at-requires
-    has-requires
-    closer-requires
-    add-i
-    loop-less
-    loop-again
+    members-below-requires
+    array-share-prefix-list
+    slice-aggregate-nearest-of
+    nearest-of-requires
     returns)

@@ -6,6 +6,12 @@ use borrow.Author.Needs.{needs}
 use Rattle.price.proofs.plan.put_end.Statement.{statement}
 use Rattle.price.proofs.plan.put_end.Tie as tie
 
+add-at : tie.Need-add-at
+add-at c = search needs
+
+mul-at : tie.Need-mul-at
+mul-at c = search needs
+
 cast-new : tie.Need-cast-new
 cast-new c = search needs
 
@@ -33,6 +39,9 @@ mul-result c = search needs
 add-result : tie.Need-add-result
 add-result c = search needs
 
+same-length : tie.Need-same-length
+same-length c = search needs
+
 returns : tie.Need-returns
 unfolding movesRecord
 returns c = let second = c .before .before in
@@ -40,13 +49,12 @@ returns c = let second = c .before .before in
     let made = first .before .before in
     (omega arith, put-two _ _ _ _ _ _ _ _ (omega arith) (made .before .new .ensures) (first .put .ensures) (made .new2 .ensures) (second .put2 .ensures))
 
-same-length : tie.Need-same-length
-same-length c = search needs
-
 pub put-end-spec : {M : Type 1} → statement M
 put-end-spec =
     tie.close
     (tie.spec
+    add-at
+    mul-at
     cast-new
     cast-new-2
     new-requires

@@ -1,25 +1,38 @@
--- `put_farms` meets its contract. The invariant: the records of the farms passed stand behind the offset.
+-- `put_farms` meets its contract. The invariant: the records of the farms passed stand behind the offset, and their hauls are summed.
 use Prim.Native.Nat.{_≤_, _-_}
 use native.Mathlib.Omega.{arith}
-use mathlib.Core.Path.{_≡_}
-use Rattle.sheet.specs.Sheet.{instanceBy}
-use Rattle.price.specs.Plan.{farmRecord}
-use Rattle.price.proofs.WriteLaws.{Filled, filled-none, filled-more}
-use Rattle.price.proofs.PlanLaws.{farm-short}
+use borrow.Author.Needs.{needs}
+use Rattle.price.proofs.BodyLaws.{Served, served-none, served-more, served-all}
 use Rattle.price.proofs.plan.put_farms.Statement.{statement}
 use Rattle.price.proofs.plan.put_farms.Tie as tie
 
 abbrev Inv-loop : tie.InvT-loop
-Inv-loop sheet m n set area₀ from at₀ farm₀ area at farm = (farm ≤ n) × Filled (farmRecord (instanceBy sheet m n) set) area₀ from area at farm
+Inv-loop sheet m n set yards area₀ from total₀ farm₀ area total farm = (farm ≤ n) × Served sheet m n set area₀ from area total farm
 
 abbrev μ-loop : tie.MeasureT-loop
-μ-loop sheet m n set area₀ from at₀ farm₀ area at farm = n - farm
+μ-loop sheet m n set yards area₀ from total₀ farm₀ area total farm = n - farm
 
 loop-holds : tie.Need-loop-holds Inv-loop μ-loop
-loop-holds c = (omega arith, filled-none _ _ _)
+loop-holds c = (omega arith, served-none _ _ _ _ _ _)
+
+mul-put-farm : tie.Need-mul-put-farm Inv-loop μ-loop
+mul-put-farm c = let start = c .before .before .before .before .before .before in
+    omega (arith, start .pre .0 .few-farms)
+
+add-put-farm : tie.Need-add-put-farm Inv-loop μ-loop
+add-put-farm c = search needs
 
 put-farm-requires : tie.Need-put-farm-requires Inv-loop μ-loop
-put-farm-requires c κs = (c .before .before .before .before .before .pre .0, omega arith, omega arith)
+put-farm-requires c κs = let start = c .before .before .before .before .before .before in
+    (start .pre .0, start .pre .1, c .before .loop-test .taken, omega (arith, c .before .before .loop .inv .1 .written .long))
+
+cast-total : tie.Need-cast-total Inv-loop μ-loop
+cast-total c = search needs
+
+add-total : tie.Need-add-total Inv-loop μ-loop
+add-total c = let turn = c .before .before .before .before in
+    let start = turn .before .before .before .before .before in
+    omega (arith, start .pre .0 .few-farms, turn .before .loop .inv .1 .summed .small)
 
 add-farm : tie.Need-add-farm Inv-loop μ-loop
 add-farm c = omega arith
@@ -28,16 +41,15 @@ loop-less : tie.Need-loop-less Inv-loop μ-loop
 loop-less c = omega arith
 
 loop-again : tie.Need-loop-again Inv-loop μ-loop
-loop-again c = let h = c .before .before .before .before .before .loop .inv in
-    (omega arith, filled-more _ _ _ _ _ _ _ _ (h .1) (farm-short _ _ _) (omega arith) (c .before .before .put-farm .ensures .0) (c .before .before .put-farm .ensures .1))
+loop-again c = let turn = c .before .before .before .before in
+    let put = c .before .before .put-farm in
+    (omega arith, served-more _ _ _ _ _ _ _ _ _ _ _ (omega arith) (turn .before .loop .inv .1) (put .ensures .0) (omega arith) (put .ensures .1))
 
 same-length : tie.Need-same-length Inv-loop μ-loop
-same-length c = c .before .loop .inv .1 .long
+same-length c = c .before .loop .inv .1 .written .long
 
 returns : tie.Need-returns Inv-loop μ-loop
-returns c = let h = c .before .loop .inv .1 in
-    let e : c .before .loop .farm ≡ c .before .before .before .before .args .n = omega arith in
-    (rw e at (h .at-is), rw e at (h .parts))
+returns c = served-all _ _ _ _ _ _ _ _ _ (omega arith) (c .before .loop .inv .1)
 
 pub put-farms-spec : {M : Type 1} → statement M
 put-farms-spec =
@@ -46,7 +58,11 @@ put-farms-spec =
     Inv-loop
     μ-loop
     loop-holds
+    mul-put-farm
+    add-put-farm
     put-farm-requires
+    cast-total
+    add-total
     add-farm
     loop-less
     loop-again

@@ -1,43 +1,63 @@
--- `put_opens` meets its contract. The invariant: the records of the yards passed stand at the front of the area.
+-- `put_opens` meets its contract. The invariant: the records of the yards passed stand at the front of the area, and their fees are summed.
 use Prim.Native.Nat.{_≤_, _-_}
 use native.Mathlib.Omega.{arith}
-use mathlib.Core.Path.{_≡_}
-use Rattle.sheet.specs.Sheet.{instanceBy}
-use Rattle.price.specs.Plan.{openRecord}
-use Rattle.price.proofs.WriteLaws.{Filled, filled-none, filled-more}
-use Rattle.price.proofs.PlanLaws.{open-short}
+use lib.ListN.{length}
+use borrow.Author.Needs.{needs}
+use Rattle.sets.proofs.MemberLaws.{listed-next}
+use Rattle.price.proofs.BodyLaws.{Opened, opened-none, open-room, opened-small, opened-more, opened-all}
 use Rattle.price.proofs.plan.put_opens.Statement.{statement}
 use Rattle.price.proofs.plan.put_opens.Tie as tie
 
 abbrev Inv-loop : tie.InvT-loop
-Inv-loop sheet m n set area₀ at₀ i₀ area at i = (i ≤ m) × Filled (openRecord (instanceBy sheet m n) set) area₀ 0 area at i
+Inv-loop sheet m n set yards area₀ total₀ t₀ area total t = (t ≤ length yards) × Opened sheet m n set yards area₀ area total t
 
 abbrev μ-loop : tie.MeasureT-loop
-μ-loop sheet m n set area₀ at₀ i₀ area at i = m - i
+μ-loop sheet m n set yards area₀ total₀ t₀ area total t = length yards - t
 
 loop-holds : tie.Need-loop-holds Inv-loop μ-loop
-loop-holds c = (omega arith, filled-none _ _ _)
+loop-holds c = (omega arith, opened-none _ _ _ _ _ _)
+
+shared-slice-read-put-open : tie.Need-shared-slice-read-put-open Inv-loop μ-loop
+shared-slice-read-put-open c = search needs
+
+mul-put-open : tie.Need-mul-put-open Inv-loop μ-loop
+mul-put-open c = let l = c .before .before .before .loop in
+    let a = c .before .before .before .before .before .before .before in
+    omega (arith, open-room _ _ _ _ _ _ (a .pre .1) (a .pre .2) _ _ _ (c .before .before .loop-test .taken) (l .inv .1))
 
 put-open-requires : tie.Need-put-open-requires Inv-loop μ-loop
-put-open-requires c κs = (c .before .before .before .before .before .pre .0, omega arith, omega arith)
+put-open-requires c κs = let l = c .before .before .before .loop in
+    let start = c .before .before .before .before .before .before .before in
+    let yard = listed-next _ _ _ (start .pre .1) _ (c .before .before .loop-test .taken) in
+    (start .pre .0, yard .below, yard .is-in, open-room _ _ _ _ _ _ (start .pre .1) (start .pre .2) _ _ _ (c .before .before .loop-test .taken) (l .inv .1))
 
-add-i : tie.Need-add-i Inv-loop μ-loop
-add-i c = omega arith
+cast-total : tie.Need-cast-total Inv-loop μ-loop
+cast-total c = search needs
+
+add-total : tie.Need-add-total Inv-loop μ-loop
+add-total c = let turn = c .before .before .before .before .before in
+    let start = turn .before .before .before .before .before in
+    omega (arith, opened-small _ _ _ _ _ _ (start .pre .1) (start .pre .2) _ _ _ (start .pre .0 .few-yards) (turn .loop-test .taken) (turn .before .loop .inv .1))
+
+add-t : tie.Need-add-t Inv-loop μ-loop
+add-t c = omega arith
 
 loop-less : tie.Need-loop-less Inv-loop μ-loop
 loop-less c = omega arith
 
 loop-again : tie.Need-loop-again Inv-loop μ-loop
-loop-again c = let h = c .before .before .before .before .before .loop .inv in
-    (omega arith, filled-more _ _ _ _ _ _ _ _ (h .1) (open-short _ _ _) (omega arith) (c .before .before .put-open .ensures .0) (c .before .before .put-open .ensures .1))
+loop-again c = let turn = c .before .before .before .before .before in
+    let start = turn .before .before .before .before .before in
+    let put = c .before .before .put-open in
+    let more = opened-more _ _ _ _ _ _ (start .pre .1) (start .pre .2) _ _ _ _ _ (turn .loop-test .taken) (turn .before .loop .inv .1) (put .ensures .0) (omega arith) (put .ensures .1) in
+    (omega arith, more)
 
 same-length : tie.Need-same-length Inv-loop μ-loop
-same-length c = c .before .loop .inv .1 .long
+same-length c = c .before .loop .inv .1 .written .long
 
 returns : tie.Need-returns Inv-loop μ-loop
-returns c = let h = c .before .loop .inv .1 in
-    let e : c .before .loop .i ≡ c .before .before .before .before .args .m = omega arith in
-    (omega (arith, rw e at (h .at-is)), rw e at (h .parts))
+returns c = let start = c .before .before .before .before .before in
+    opened-all _ _ _ _ _ _ (start .pre .1) (start .pre .2) _ _ _ (omega arith) (c .before .loop .inv .1)
 
 pub put-opens-spec : {M : Type 1} → statement M
 put-opens-spec =
@@ -46,8 +66,12 @@ put-opens-spec =
     Inv-loop
     μ-loop
     loop-holds
+    shared-slice-read-put-open
+    mul-put-open
     put-open-requires
-    add-i
+    cast-total
+    add-total
+    add-t
     loop-less
     loop-again
     same-length

@@ -4,29 +4,35 @@ use native.Mathlib.Omega.{arith}
 use mathlib.Core.Path.{_≡_}
 use borrow.Author.Needs.{needs}
 use Rattle.search.specs.Tables.{tableCost}
-use Rattle.search.proofs.MoveLaws.{ready}
-use Rattle.search.proofs.DescentLaws.{Cheapest, cheapest-one, cheapest-more, cheapest-all}
+use Rattle.search.proofs.DescentLaws.{Cheapest, cheapest-all}
+use Rattle.search.proofs.AloneLaws.{alone-first, alone-more}
 use Rattle.search.proofs.descent.cheapest_yard.Statement.{statement}
 use Rattle.search.proofs.descent.cheapest_yard.Tie as tie
 
 abbrev Inv-loop : tie.InvT-loop
-Inv-loop opening service m n b₀ i₀ b i = (1 ≤ i) × (i ≤ m) × Cheapest (tableCost m n opening service) b i
+Inv-loop opening service m n sums b₀ i₀ b i = (1 ≤ i) × (i ≤ m) × Cheapest (tableCost m n opening service) b i
 
 abbrev μ-loop : tie.MeasureT-loop
-μ-loop opening service m n b₀ i₀ b i = m - i
+μ-loop opening service m n sums b₀ i₀ b i = m - i
 
-priced-set-requires : tie.Need-priced-set-requires Inv-loop μ-loop
-priced-set-requires c κs = c .before .before .pre .0
+alone-cost-requires : tie.Need-alone-cost-requires Inv-loop μ-loop
+alone-cost-requires c κs = let pre = c .before .before .before .pre in (omega (arith, pre .1 .room), omega (arith, pre .3))
 
 loop-holds : tie.Need-loop-holds Inv-loop μ-loop
-loop-holds c = (omega arith, c .before .before .before .pre .1, cheapest-one _ _ (c .priced-set .ensures))
+loop-holds c = let start = c .before .before .before .before in
+    let a = start .args in
+    let pre = start .pre in
+    (omega arith, pre .2, alone-first (a .m) (a .n) (a .opening .now) (a .service .now) (a .sums .now) (pre .0) (pre .4) _ (omega (arith, pre .2)) (c .alone-cost .ensures))
 
 added-requires : tie.Need-added-requires Inv-loop μ-loop
 added-requires c κs = search needs
 
+alone-cost-requires-2 : tie.Need-alone-cost-requires-2 Inv-loop μ-loop
+alone-cost-requires-2 c κs = let pre = c .before .before .before .before .before .before .before .pre in
+    (omega (arith, pre .0 .few-facilities, pre .1 .room), omega (arith, pre .0 .few-facilities, pre .3))
+
 better-of-requires : tie.Need-better-of-requires Inv-loop μ-loop
-better-of-requires c κs =
-    ready _ _ _ _ _ _ (c .before .before .before .before .before .before .pre .0) (c .before .before .loop .inv .2)
+better-of-requires c κs = search needs
 
 add-i : tie.Need-add-i Inv-loop μ-loop
 add-i c = omega arith
@@ -35,16 +41,18 @@ loop-less : tie.Need-loop-less Inv-loop μ-loop
 loop-less c = omega arith
 
 loop-again : tie.Need-loop-again Inv-loop μ-loop
-loop-again c = let few = c .before .before .before .before .before .before .before .pre .0 .few-facilities in
-    let h = c .before .before .before .loop .inv in (
+loop-again c = let l = c .before .before .before .before .loop in
+    let start = c .before .before .before .before .before .before .before .before .before in
+    let a = start .args in
+    let pre = start .pre in (
       omega arith,
       omega arith,
-      cheapest-more _ _ _ (c .before .before .before .loop .b) _ (h .0) (omega arith) (h .2) (c .before .added .ensures)
-          (c .better-of .ensures),
+      alone-more (a .m) (a .n) (a .opening .now) (a .service .now) (a .sums .now) (pre .0) (pre .4) (l .i) _ _ (l .b) _ (l .inv .0) (omega arith) (l .inv .2)
+          (c .before .before .added .ensures) (c .before .alone-cost2 .ensures) (c .better-of .ensures),
     )
 
 returns : tie.Need-returns Inv-loop μ-loop
-returns c = let e : c .before .loop .i ≡ c .before .before .before .before .before .args .m = omega arith in
+returns c = let e : c .before .loop .i ≡ c .before .before .before .before .before .before .args .m = omega arith in
     cheapest-all _ _ _ _ _ (rw e at (c .before .loop .inv .2))
 
 pub cheapest-yard-spec : {M : Type 1} → statement M
@@ -53,9 +61,10 @@ cheapest-yard-spec =
     (tie.spec
     Inv-loop
     μ-loop
-    priced-set-requires
+    alone-cost-requires
     loop-holds
     added-requires
+    alone-cost-requires-2
     better-of-requires
     add-i
     loop-less

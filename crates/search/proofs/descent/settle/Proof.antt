@@ -1,38 +1,48 @@
--- `descent::settle` meets its contract. The invariant: the search goes on from b as it would from the start; b's cost falls.
-use native.Mathlib.Omega.{arith}
-use Rattle.search.specs.Tables.{tableCost}
-use Rattle.search.specs.Settling.{neighboursBy}
-use Rattle.search.proofs.DescentLaws.{Going, going-starts, going-on, going-ends}
+-- `descent::settle` meets its contract: its tables are large enough, and nothing is counted in them yet.
+use mathlib.Core.Path.{refl}
+use lib.ListN.{replicate}
+use Rattle.search.proofs.ClientLaws.{fresh, none-begun}
+use borrow.Author.Needs.{needs}
 use Rattle.search.proofs.descent.settle.Statement.{statement}
 use Rattle.search.proofs.descent.settle.Tie as tie
 
-abbrev Inv-loop : tie.InvT-loop
-Inv-loop moves opening service m n b₀ made₀ b made = Going (tableCost m n opening service) (neighboursBy moves m) b₀ b made
+slice-aggregate-settle-on : tie.Need-slice-aggregate-settle-on
+slice-aggregate-settle-on c = search needs
 
-abbrev μ-loop : tie.MeasureT-loop
-μ-loop moves opening service m n b₀ made₀ b made = b .cost
+slice-aggregate-settle-on-2 : tie.Need-slice-aggregate-settle-on-2
+slice-aggregate-settle-on-2 c = search needs
 
-loop-holds : tie.Need-loop-holds Inv-loop μ-loop
-loop-holds c = going-starts _ _ _ (c .before .before .pre .right)
+slice-aggregate-settle-on-3 : tie.Need-slice-aggregate-settle-on-3
+slice-aggregate-settle-on-3 c = search needs
 
-best-move-requires : tie.Need-best-move-requires Inv-loop μ-loop
-best-move-requires c κs = record { tables = c .before .before .before .pre .tables; right = c .loop .inv .right }
+slice-aggregate-settle-on-4 : tie.Need-slice-aggregate-settle-on-4
+slice-aggregate-settle-on-4 c = search needs
 
-add-made : tie.Need-add-made Inv-loop μ-loop
-add-made c = omega (arith, c .before .before .loop .inv .room)
+settle-on-requires : tie.Need-settle-on-requires
+settle-on-requires c κs = let start = c .before .before .before .before .before .before .before .before in
+    let a = start .args in
+    let pre = start .pre in (
+      fresh (a .m) (a .n) (a .service .now) (a .sums .now) (pre .0) (pre .4) (pre .5),
+      none-begun (a .m) (a .n) (a .service .now) (replicate 128 32000031) (replicate 128 32000031) (a .start) (λ j l. refl),
+      pre .1,
+      pre .2,
+      pre .3,
+    )
 
-loop-less : tie.Need-loop-less Inv-loop μ-loop
-loop-less c = c .if1 .left
+same-length : tie.Need-same-length
+same-length c = search needs
 
-loop-again : tie.Need-loop-again Inv-loop μ-loop
-loop-again c = let h = c .before .before .loop in
-    going-on _ _ _ (h .b) _ _ (h .inv) (c .before .best-move .ensures) (c .if1 .left)
-
-returns : tie.Need-returns Inv-loop μ-loop
-returns c = let h = c .before .before .loop in
-    going-ends _ _ _ (h .b) _ _ (h .inv) (c .before .best-move .ensures) (c .if1 .taken)
+returns : tie.Need-returns
+returns c = search needs
 
 pub settle-spec : {M : Type 1} → statement M
 settle-spec =
     tie.close
-    (tie.spec Inv-loop μ-loop loop-holds best-move-requires add-made loop-less loop-again returns)
+    (tie.spec
+    slice-aggregate-settle-on
+    slice-aggregate-settle-on-2
+    slice-aggregate-settle-on-3
+    slice-aggregate-settle-on-4
+    settle-on-requires
+    same-length
+    returns)

@@ -1,23 +1,25 @@
--- `tables::fill` meets its contract. The invariant: the table keeps its length, and its front holds the amounts of the records passed.
+-- `tables::fill` meets its contract. The invariant: the table keeps its length, its front holds the amounts of the records passed, and
+-- behind it nothing changed.
 use borrow.Author.Needs.{needs}
 use mathlib.Core.Path.{_≡_, refl}
 use Prim.Native.Nat.{_≤_, _-_}
 use native.Mathlib.Omega.{arith}
 use lib.ListN.{length, length-set}
 use Rattle.search.specs.Tables.{Holds}
-use Rattle.search.proofs.TableLaws.{holds-none, holds-more}
+use Rattle.search.specs.Amounts.{Behind}
+use Rattle.search.proofs.TableLaws.{holds-none, holds-more, behind-more}
 use Rattle.search.proofs.tables.fill.Statement.{statement}
 use Rattle.search.proofs.tables.fill.Tie as tie
 
 abbrev Inv-loop : tie.InvT-loop
-Inv-loop sheet from count table₀ i₀ table i = (i ≤ count) × (length table ≡ length table₀) × Holds sheet from i table
+Inv-loop sheet from count table₀ i₀ table i = (i ≤ count) × (length table ≡ length table₀) × Holds sheet from i table × Behind i table₀ table
 
 abbrev μ-loop : tie.MeasureT-loop
 μ-loop sheet from count table₀ i₀ table i = count - i
 
 loop-holds : tie.Need-loop-holds Inv-loop μ-loop
 loop-holds c = let a = c .before .before .args in
-    (omega arith, refl, holds-none (a .sheet .now) (a .from) (a .table .now))
+    (omega arith, refl, holds-none (a .sheet .now) (a .from) (a .table .now), λ k l. refl)
 
 add-at : tie.Need-add-at Inv-loop μ-loop
 add-at c = omega arith
@@ -43,13 +45,14 @@ loop-again c = let a = c .before .before .before .before .before .args in
       omega arith,
       simp length-set (l .inv .1),
       holds-more (a .sheet .now) (a .from) (l .i) (l .table) _ (omega arith) (omega arith) (c .at .ensures) (l .inv .2),
+      behind-more (l .i) _ (a .table .now) (l .table) (l .inv .3),
     )
 
 same-length : tie.Need-same-length Inv-loop μ-loop
 same-length c = c .before .loop .inv .1
 
 returns : tie.Need-returns Inv-loop μ-loop
-returns c = λ k l. c .before .loop .inv .2 k (omega arith)
+returns c = (λ k l. c .before .loop .inv .2 k (omega arith), λ k l. c .before .loop .inv .3 k (omega arith))
 
 pub fill-spec : {M : Type 1} → statement M
 fill-spec =

@@ -1,0 +1,242 @@
+-- Laws of a client's two nearest facilities: counted along the list of a set's facilities, and after a move.
+-- A facility that came is inserted; one that went leaves no trace where neither of the two names it.
+use Prim.Native.Nat.{ℕ, zero, suc, _+_, _*_, _%_, _^_, _≤_, _<_}
+use native.Mathlib.Nat.{le-refl, le-step, lt-suc-self, lt-of-lt-of-le}
+use native.Mathlib.Numerals.{add-one}
+use native.Mathlib.Omega.{arith}
+use native.Mathlib.Decide.{decLt}
+use mathlib.Core.Path.{_≡_, refl, sym, ap, _∙_}
+use mathlib.Core.Bool.{Bool, true, false, cond, not, _&&_, _||_}
+use mathlib.Core.List.{List}
+use borrow.Author.Tests.{le-ltb, ne-eqb, eqb-true, eqb-false}
+use lib.Dec.{eqb, ltb}
+use lib.ListN.{length, getD}
+use Rattle.model.specs.Loops.{leading}
+use Rattle.model.specs.Sets.{member, plus, minus}
+use Rattle.model.specs.TwoLeast.{Two, two, insert, twoLeast, packed}
+use Rattle.model.proofs.Bools.{clash, fails, or-right, or-left, eqb-self, Eq?, same, diff, test, Lt?, less, more, test<}
+use Rattle.model.proofs.LoopLaws.{leading-none, leading-more, leading-stops}
+use Rattle.model.proofs.SetLaws.{member-with, member-without, member-trade, member-below}
+use Rattle.model.proofs.NeighbourLaws.{Move, added, dropped, swapped}
+use Rattle.model.proofs.TwoLeastLaws.{two-none, two-take, two-skip, two-cong, two-ordered, two-below, two-with, packed-without}
+use Rattle.sheet.proofs.ShapeLaws.{few-hauls, row-within}
+use Rattle.sets.specs.Members.{membersOf}
+use Rattle.sets.proofs.MemberLaws.{passed, passed-none, passed-more, Next, Last, member-at, none-after, count-few, list-length}
+use Rattle.search.specs.Prices.{entry, Rows, nearTwo, twoOf, nearOf, InOrder, newAt, newIn, Moved, arrivalAt, goesTo}
+use Rattle.search.specs.declared.near.Near.{Near}
+
+-- ---- a client's row
+
+module _ (m n : ℕ) (service : List ℕ) (rows : Rows m n service) (j i : ℕ) (client : j < n) (facility : i < m) where
+  -- the entry of facility i in client j's row lies within the table
+  pub entry-within : j * m + i < length service
+  entry-within = omega (arith, row-within m n j client, rows .room)
+
+  -- the rows come to few entries
+  pub entry-early : j * m + i < 4096
+  entry-early = omega (arith, row-within m n j client, few-hauls m n (rows .few-facilities) (rows .few-clients))
+
+-- ---- the facilities of a set, as they are listed
+
+abbrev farthest : ℕ
+farthest = 32000031
+
+module _ (set : ℕ) (list : List ℕ) (count : ℕ) (list-is : list ≡ membersOf set .list) (count-is : count ≡ membersOf set .count) where
+  -- the number at place t is the next facility of the set
+  pub place : (t : ℕ) → t < count → Next set 32 (passed list t) (getD list t 0)
+  place t l = rw list-is (member-at set 32 (le-refl 32) t (rw count-is at l))
+
+  pub place-room : (t : ℕ) → t < count → t < length list
+  place-room t l = omega (arith, ap length list-is, list-length set 32 (le-refl 32), count-is, count-few set 32 (le-refl 32))
+
+  last : Last set 32 (passed list count)
+  last = rw (list-is, count-is) (none-after set 32 (le-refl 32))
+
+module _ (m : ℕ) (service : List ℕ) (set j : ℕ) where
+  -- client j's two nearest of the facilities below p
+  abbrev pub nearBelow : ℕ → Two
+  nearBelow p = twoLeast farthest p (member set) (packed (entry m service j))
+
+  pub near-none : (list : List ℕ) → nearOf (two farthest farthest) ≡ nearOf (nearBelow (passed list 0))
+  near-none list = rw (passed-none list) (ap nearOf (two-none farthest (member set) (packed (entry m service j))))
+
+  -- a turn, with what its calls answer: the facility at place t is inserted
+  pub near-more : (list : List ℕ) (t x : ℕ) (near : Near) → Next set 32 (passed list t) (getD list t 0)
+      → near ≡ nearOf (nearBelow (passed list t)) → x ≡ packed (entry m service j) (getD list t 0)
+      → nearOf (insert x (twoOf near)) ≡ nearOf (nearBelow (passed list (t + 1)))
+  near-more list t x near r near-is x-is =
+      let v = packed (entry m service j) in
+      let skip = two-skip farthest (passed list t) (getD list t 0) (member set) v (r .rises) (r .none) in
+      let take = two-take farthest (member set) v (getD list t 0) (r .is-in) in
+      rw (near-is, x-is, passed-more list t, take, skip)
+
+  -- all places are passed
+  pub near-all : (list : List ℕ) (count : ℕ) → list ≡ membersOf set .list → count ≡ membersOf set .count → m ≤ 32 → set < 2 ^ m
+      → nearBelow (passed list count) ≡ nearTwo m service set j
+  unfolding nearTwo
+  near-all list count list-is count-is few small =
+      let v = packed (entry m service j) in
+      let r = last set list count list-is count-is in
+      sym (two-skip farthest (passed list count) 32 (member set) v (r .within) (r .none))
+      ∙ two-skip farthest m 32 (member set) v few (λ i a b. fails (λ e. let l = member-below m set i small e in omega arith))
+
+  pub near-in-order : InOrder (nearOf (nearTwo m service set j))
+  unfolding nearTwo
+  near-in-order = record {
+    ordered = two-ordered farthest m (member set) (packed (entry m service j));
+    within = two-below farthest m (member set) (packed (entry m service j));
+  }
+
+-- ---- after a move
+
+-- what is not before the second changes nothing
+insert-none : (x : ℕ) (t : Two) → t .first ≤ t .second → t .second ≤ x → insert x t ≡ t
+unfolding insert
+insert-none x t o l = rw (le-ltb x (t .first) (omega arith), le-ltb x (t .second) l)
+
+or-fails-left : (a b : Bool) → a || b ≡ false → a ≡ false
+or-fails-left a b h = fails (λ e. clash (or-left a b e) h)
+
+or-fails-right : (a b : Bool) → a || b ≡ false → b ≡ false
+or-fails-right a b h = fails (λ e. clash (or-right a b e) h)
+
+module _ (m : ℕ) (service : List ℕ) (set next came went j : ℕ) (few : m ≤ 32) (moved : Moved m set next came went) where
+  abbrev v : ℕ → ℕ
+  v = packed (entry m service j)
+
+  abbrev S : ℕ → Bool
+  S = member set
+
+  -- `came` is inserted
+  came-in : twoLeast farthest m (plus S came) v ≡ insert (arrivalAt m service came j) (nearTwo m service set j)
+  unfolding nearTwo arrivalAt
+  came-in = go (ltb came m) (test< came m)
+    where
+      go : (b : Bool) → Lt? came m b
+          → twoLeast farthest m (plus S came) v ≡ insert (cond b (v came) farthest) (twoLeast farthest m S v)
+      go true (less l) = two-with farthest m came S v l (moved .comes l)
+      go false (more g) =
+          two-cong farthest m (plus S came) S v (λ k l. ap (λ (b : Bool). b || S k) (ne-eqb came k (λ q. omega arith)))
+          ∙ sym (insert-none farthest (twoLeast farthest m S v) (two-ordered farthest m S v) (two-below farthest m S v))
+
+  -- where neither of the two names `went`, it leaves no trace
+  went-out : (T : ℕ → Bool) → (went < m → T went ≡ true) → goesTo (nearOf (twoLeast farthest m T v)) went ≡ false
+      → twoLeast farthest m (minus T went) v ≡ twoLeast farthest m T v
+  unfolding goesTo
+  went-out T is-in stays =
+      let t = twoLeast farthest m T v in
+      elim (decLt went m) [
+        | yes l ↦
+            packed-without farthest m went T (entry m service j) few l (is-in l)
+            (eqb-false (t .first % 32) went (or-fails-left (eqb (t .first % 32) went) (eqb (t .second % 32) went) stays))
+            (eqb-false (t .second % 32) went (or-fails-right (eqb (t .first % 32) went) (eqb (t .second % 32) went) stays))
+        | no g ↦ two-cong farthest m (minus T went) T v (λ k l. ap (λ (b : Bool). not b && T k) (ne-eqb went k (λ q. omega arith)))
+      ]
+
+  near-moves : goesTo (nearOf (insert (arrivalAt m service came j) (nearTwo m service set j))) went ≡ false
+      → nearTwo m service next j ≡ insert (arrivalAt m service came j) (nearTwo m service set j)
+  unfolding nearTwo
+  near-moves stays =
+      two-cong farthest m (member next) (minus (plus S came) went) v (moved .after)
+      ∙ went-out (plus S came) (λ l. or-right (eqb came went) (S went) (moved .goes l)) (rw (← came-in) at stays)
+      ∙ came-in
+
+  -- the same, with what calls answer
+  pub near-with : (near kept : Near) (arrived : ℕ) → near ≡ nearOf (nearTwo m service set j) → arrived ≡ arrivalAt m service came j
+      → kept ≡ nearOf (insert arrived (twoOf near)) → goesTo kept went ≡ false → kept ≡ nearOf (nearTwo m service next j)
+  near-with near kept arrived near-is arrived-is kept-is stays =
+      let e : kept ≡ nearOf (insert (arrivalAt m service came j) (nearTwo m service set j)) = kept-is ∙ rw (near-is, arrived-is) in
+      e ∙ ap nearOf (sym (near-moves (rw e at stays)))
+
+  -- where the one that came is no nearer and neither of the two went, nothing changes
+  pub near-stays : (near : Near) → near ≡ nearOf (nearTwo m service set j) → near .second ≤ arrivalAt m service came j → goesTo near went ≡ false
+      → nearTwo m service next j ≡ nearTwo m service set j
+  near-stays near near-is far stays =
+      let o = near-in-order m service set j in
+      let kept = insert-none (arrivalAt m service came j) (nearTwo m service set j) (o .ordered) (rw near-is at far) in
+      near-moves (rw kept (rw near-is at stays)) ∙ kept
+
+-- ---- what came and what went
+
+-- a test that holds of every index before k; and of k no more
+leading-all : (p : ℕ → Bool) (k : ℕ) → ((i : ℕ) → i < k → p i ≡ true) → leading k p ≡ k
+leading-all p zero h = leading-none p
+leading-all p (suc k) h =
+    rw (← add-one k) (leading-more p k (leading-all p k (λ i l. h i (le-step l))) (h k (lt-suc-self k)))
+
+leading-is : (p : ℕ → Bool) (n k : ℕ) → k ≤ n → ((i : ℕ) → i < k → p i ≡ true) → (k < n → p k ≡ false) → leading n p ≡ k
+leading-is p n k l before at =
+    elim (decLt k n) [
+      | yes b ↦ leading-stops p n k (leading-all p k before) b (at b)
+      | no g ↦ let e : n ≡ k = omega arith in rw e (leading-all p k before)
+    ]
+
+-- i is not new
+abbrev pub old : ℕ → ℕ → ℕ → Bool
+old before after i = not (newAt before after i)
+
+new-is : (before after k : ℕ) → k ≤ 32 → ((i : ℕ) → i < k → newAt before after i ≡ false) → (k < 32 → newAt before after k ≡ true)
+    → newIn before after ≡ k
+unfolding newIn
+new-is before after k l none at =
+    leading-is (old before after) 32 k l (λ i b. ap not (none i b)) (λ b. ap not (at b))
+
+module _ (set next came went : ℕ) (moved : Moved 32 set next came went) where
+  apart : came < 32 → eqb went came ≡ false
+  apart l = fails (λ e. let q = eqb-true went came e in clash (moved .goes (omega arith)) (rw q (moved .comes l)))
+
+  -- what came is new, what went is new the other way round, and they alone are
+  came-new : came ≤ 32 → newIn set next ≡ came
+  unfolding newAt
+  came-new few = new-is set next came few
+      (λ i l. rw (moved .after i (lt-of-lt-of-le l few), ne-eqb came i (λ q. omega arith)) (shut (not (eqb went i)) (member set i)))
+      (λ l. rw (moved .after came l, eqb-self came, moved .comes l, apart l))
+    where
+      shut : (a s : Bool) → (a && s) && not s ≡ false
+      shut true true = refl
+      shut true false = refl
+      shut false s = refl
+
+  went-new : went ≤ 32 → newIn next set ≡ went
+  unfolding newAt
+  went-new few = new-is next set went few
+      (λ i l. rw (moved .after i (lt-of-lt-of-le l few), ne-eqb went i (λ q. omega arith)) (shut (eqb came i) (member set i)))
+      (λ l. rw (moved .after went l, eqb-self went, moved .goes l))
+    where
+      shut : (a s : Bool) → s && not (a || s) ≡ false
+      shut true true = refl
+      shut true false = refl
+      shut false true = refl
+      shut false false = refl
+
+  -- so they are found, whatever the number of facilities
+  moved-new : (m : ℕ) → m ≤ 32 → came ≤ 32 → went ≤ 32 → Moved m set next (newIn set next) (newIn next set)
+  moved-new m few few-came few-went =
+      rw (came-new few-came, went-new few-went)
+      (record {
+        after = λ k l. moved .after k (lt-of-lt-of-le l few);
+        comes = λ l. moved .comes (lt-of-lt-of-le l few);
+        goes = λ l. moved .goes (lt-of-lt-of-le l few);
+      })
+
+pub moved-is : (m set next : ℕ) → m ≤ 32 → Move m set next → Moved m set next (newIn set next) (newIn next set)
+moved-is m set next few (added o l e is) = moved-new set next o 32 (record {
+  after = λ k b. rw (is, member-with set o k, ne-eqb 32 k (λ q. omega arith));
+  comes = λ b. e;
+  goes = λ b. absurd (omega arith);
+}) m few (omega arith) (omega arith)
+moved-is m set next few (dropped f l e some is) = moved-new set next 32 f (record {
+  after = λ k b. rw (is, member-without set f k, ne-eqb 32 k (λ q. omega arith));
+  comes = λ b. absurd (omega arith);
+  goes = λ b. e;
+}) m few (omega arith) (omega arith)
+moved-is m set next few (swapped f o lf ef lo eo is) = moved-new set next o f (record {
+  after = λ k b. rw (is, member-trade set f o k) (traded k (eqb o k) (test o k) (eqb f k) (test f k));
+  comes = λ b. eo;
+  goes = λ b. ef;
+}) m few (omega arith) (omega arith)
+  where
+    traded : (k : ℕ) (a : Bool) → Eq? o k a → (b : Bool) → Eq? f k b → (a || (not b && member set k)) ≡ (not b && (a || member set k))
+    traded k true (same p) true (same q) = clash ef (rw (q ∙ sym p) eo)
+    traded k true (same p) false (diff q) = refl
+    traded k false (diff p) b r = refl

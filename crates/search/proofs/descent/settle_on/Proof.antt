@@ -1,0 +1,115 @@
+-- `descent::settle_on` meets its contract. The invariant: the search goes on from b as it would from the start, the tables are those of
+-- b's set, and b's cost falls.
+use mathlib.Core.Path.{_≡_, sym, ap, _∙_}
+use Prim.Native.Nat.{_*_}
+use native.Mathlib.Omega.{arith}
+use Rattle.model.proofs.NeighbourLaws.{move-keeps}
+use Rattle.search.specs.Tables.{tableCost}
+use Rattle.search.specs.Settling.{neighboursBy}
+use Rattle.search.specs.Standing.{Standing}
+use Rattle.search.proofs.TableLaws.{tables-of}
+use Rattle.search.proofs.MoveLaws.{prices}
+use Rattle.search.proofs.NearLaws.{moved-is}
+use Rattle.search.proofs.PriceLaws.{cost-now}
+use Rattle.search.proofs.ClientLaws.{SameRoom, room-same, room-kept}
+use Rattle.search.proofs.DescentLaws.{Going, going-starts, going-on, going-ends, step-move}
+use Rattle.search.proofs.descent.settle_on.Statement.{statement}
+use Rattle.search.proofs.descent.settle_on.Tie as tie
+
+abbrev Inv-loop : tie.InvT-loop
+Inv-loop neighbourhood opening service m n start firsts₀ seconds₀ added₀ more₀ loss₀ fees b₀ made₀ firsts seconds added more loss b made =
+    Going (tableCost m n opening service) (neighboursBy neighbourhood m) b₀ b made
+    × Standing m n service (b .set) firsts seconds added more loss
+    × SameRoom firsts₀ seconds₀ added₀ more₀ loss₀ firsts seconds added more loss
+
+abbrev μ-loop : tie.MeasureT-loop
+μ-loop neighbourhood opening service m n start firsts₀ seconds₀ added₀ more₀ loss₀ fees b₀ made₀ firsts seconds added more loss b made = b .cost
+
+begin-requires : tie.Need-begin-requires Inv-loop μ-loop
+begin-requires c κs = let pre = c .before .before .before .before .before .before .before .before .before .before .before .before .pre in (pre .0, pre .1, pre .3, pre .4)
+
+opening-cost-requires : tie.Need-opening-cost-requires Inv-loop μ-loop
+opening-cost-requires c κs = let pre = c .before .before .before .before .before .before .before .before .before .before .before .before .before .before .before .before .before .before .before .before .before .before .before .pre in tables-of _ _ _ _ (pre .0 .rows) (pre .2)
+
+nearest-costs-requires : tie.Need-nearest-costs-requires Inv-loop μ-loop
+nearest-costs-requires c κs = let kept = c .before .before .before .before .before .before .before .before .before .before .before .before .begin .ensures .kept in (kept .first-room, kept .rows .few-clients)
+
+add-t32 : tie.Need-add-t32 Inv-loop μ-loop
+add-t32 c = let rows = c .before .before .before .before .before .before .before .before .before .before .before .before .before .begin .ensures .kept .rows in
+    omega (arith, c .before .before .opening-cost .ensures .1, c .nearest-costs .ensures .1, rows .few-facilities, rows .few-clients)
+
+loop-holds : tie.Need-loop-holds Inv-loop μ-loop
+loop-holds c = let here = c .before .before .before .before .before .before .before .before .before .before .before .before .before .begin .ensures in
+    let start = c .before .before .before .before .before .before .before .before .before .before .before .before .before .before .before .before .before .before .before .before .before .before .before .before .before .before in
+    let a = start .args in
+    let k-is = cost-now (a .m) (a .n) (a .opening .now) (a .service .now) (a .start) _ _ _ _ _ here _ _ (c .before .before .opening-cost .ensures .0) (c .nearest-costs .ensures .0) in
+    (going-starts (tableCost (a .m) (a .n) (a .opening .now) (a .service .now)) _ _ (prices (tableCost (a .m) (a .n) (a .opening .now) (a .service .now)) (a .start) _ k-is), here, room-same _ _ _ _ _)
+
+choose-requires : tie.Need-choose-requires Inv-loop μ-loop
+choose-requires c κs = let l = c .before .before .before .before .before .loop in
+    let pre = c .before .before .before .before .before .before .before .before .before .before .before .before .before .before .before .before .before .before .before .before .before .before .before .before .before .before .before .before .before .before .before .before .pre in
+    (l .inv .1, pre .2, record { tables = tables-of _ _ _ _ (pre .0 .rows) (pre .2); right = l .inv .0 .right })
+
+move-to-requires : tie.Need-move-to-requires Inv-loop μ-loop
+move-to-requires c κs = let other = c .before .before .before .before .before in
+    let l = other .before .before .before .before .before .before .before .loop in
+    let a = c .before .before .before .before .before .before .before .before .before .before .before .before .before .before .before .before .before .before .before .before .before .before .before .before .before .before .before .before .before .before .before .before .before .before .before .before .before .before .before .args in
+    let to = other .before .choose in
+    let step = step-move (a .neighbourhood) (a .m) (tableCost (a .m) (a .n) (a .opening .now) (a .service .now)) (l .b) (to .result) (l .inv .0 .right) (to .ensures) (other .if1 .left) in
+    let keeps = move-keeps (a .m) (l .b .set) (l .inv .1 .below) (to .result .set) step in
+    (l .inv .1, moved-is (a .m) (l .b .set) (to .result .set) (l .inv .1 .kept .rows .few-facilities) step, keeps .0, keeps .1)
+
+add-made : tie.Need-add-made Inv-loop μ-loop
+add-made c = let rows = c .before .before .before .before .before .before .before .before .before .before .before .before .before .before .before .before .before .before .before .before .before .before .before .before .before .before .before .before .before .before .before .before .before .before .before .before .before .begin .ensures .kept .rows in
+    omega (arith, c .before .before .before .before .before .before .before .before .before .before .before .before .before .before .before .before .before .before .before .before .before .before .before .loop .inv .0 .room, c .before .before .before .before .before .before .before .before .before .before .before .before .before .before .before .before .if1 .left, c .before .before .before .before .before .before .before .before .before .before .before .before .before .before .before .before .before .before .before .before .before .before .before .before .before .before .opening-cost .ensures .1, c .before .before .before .before .before .before .before .before .before .before .before .before .before .before .before .before .before .before .before .before .before .before .before .before .nearest-costs .ensures .1, rows .few-facilities, rows .few-clients)
+
+loop-less : tie.Need-loop-less Inv-loop μ-loop
+loop-less c = c .before .before .before .before .before .before .before .before .before .before .before .before .before .before .before .before .if1 .left
+
+loop-again : tie.Need-loop-again Inv-loop μ-loop
+loop-again c = let other = c .before .before .before .before .before .before .before .before .before .before .before .before .before .before .before .before in
+    let l = other .before .before .before .before .before .before .before .loop in
+    let room = room-kept (l .inv .2) (c .before .before .before .before .before .before .before .before .before .firsts2 .given) (c .before .before .before .before .before .before .before .seconds2 .given) (c .before .before .before .before .before .added2 .given) (c .before .before .before .more2 .given) (c .before .loss2 .given) in
+    (going-on _ _ _ (l .b) _ _ (l .inv .0) (other .before .choose .ensures) (other .if1 .left), c .before .before .before .before .before .before .before .before .before .before .move-to .ensures, room)
+
+same-length : tie.Need-same-length Inv-loop μ-loop
+same-length c = c .before .before .before .before .before .before .before .loop .inv .2 .same-firsts ∙ c .before .before .before .before .before .before .before .before .before .before .before .before .before .before .before .before .before .before .before .before .firsts .given
+
+same-length-2 : tie.Need-same-length-2 Inv-loop μ-loop
+same-length-2 c = c .before .before .before .before .before .before .before .loop .inv .2 .same-seconds ∙ c .before .before .before .before .before .before .before .before .before .before .before .before .before .before .before .before .before .before .seconds .given
+
+same-length-3 : tie.Need-same-length-3 Inv-loop μ-loop
+same-length-3 c = c .before .before .before .before .before .before .before .loop .inv .2 .same-added ∙ c .before .before .before .before .before .before .before .before .before .before .before .before .before .before .before .before .added .given
+
+same-length-4 : tie.Need-same-length-4 Inv-loop μ-loop
+same-length-4 c = c .before .before .before .before .before .before .before .loop .inv .2 .same-more ∙ c .before .before .before .before .before .before .before .before .before .before .before .before .before .before .more .given
+
+same-length-5 : tie.Need-same-length-5 Inv-loop μ-loop
+same-length-5 c = c .before .before .before .before .before .before .before .loop .inv .2 .same-loss ∙ c .before .before .before .before .before .before .before .before .before .before .before .before .loss .given
+
+returns : tie.Need-returns Inv-loop μ-loop
+returns c = let l = c .before .before .before .before .before .before .before .loop in
+    going-ends _ _ _ (l .b) _ _ (l .inv .0) (c .before .choose .ensures) (c .if1 .taken)
+
+pub settle-on-spec : {M : Type 1} → statement M
+settle-on-spec =
+    tie.close
+    (tie.spec
+    Inv-loop
+    μ-loop
+    begin-requires
+    opening-cost-requires
+    nearest-costs-requires
+    add-t32
+    loop-holds
+    choose-requires
+    move-to-requires
+    add-made
+    loop-less
+    loop-again
+    same-length
+    same-length-2
+    same-length-3
+    same-length-4
+    same-length-5
+    returns)

@@ -1,0 +1,26 @@
+-- `near::goes_to` meets its contract.
+use Prim.Native.Nat.{_%_}
+use borrow.Author.Tests.{eq-eqb, ne-eqb}
+use Rattle.search.specs.Prices.{goesTo}
+use borrow.Author.Needs.{needs}
+use Rattle.search.proofs.near.goes_to.Statement.{statement}
+use Rattle.search.proofs.near.goes_to.Tie as tie
+
+cast-if1 : tie.Need-cast-if1
+cast-if1 c = search needs
+
+cast-result : tie.Need-cast-result
+cast-result c = search needs
+
+returns : tie.Need-returns
+unfolding goesTo
+returns c = let a = c .before .before .args in
+    let e = eq-eqb (a .near .first % 32) (a .o) (c .if1 .taken) in rw e
+
+returns-2 : tie.Need-returns-2
+unfolding goesTo
+returns-2 c = let a = c .before .before .before .args in
+    rw (ne-eqb (a .near .first % 32) (a .o) (c .before .if1 .left))
+
+pub goes-to-spec : {M : Type 1} → statement M
+goes-to-spec = tie.close (tie.spec cast-if1 cast-result returns returns-2)

@@ -1,0 +1,29 @@
+-- `near::near_after` meets its contract: where neither of the two went, only the one that came can change them.
+use mathlib.Core.Path.{sym, _∙_}
+use Rattle.search.proofs.NearLaws.{near-with}
+use borrow.Author.Needs.{needs}
+use Rattle.search.proofs.near.near_after.Statement.{statement}
+use Rattle.search.proofs.near.near_after.Tie as tie
+
+inserted-requires : tie.Need-inserted-requires
+inserted-requires c κs = search needs
+
+goes-to-requires : tie.Need-goes-to-requires
+goes-to-requires c κs = search needs
+
+near-of-requires : tie.Need-near-of-requires
+near-of-requires c κs = search needs
+
+returns : tie.Need-returns
+returns c = search needs
+
+returns-2 : tie.Need-returns-2
+returns-2 c = let s = c .before .before .before .before .before in
+    let a = s .args in
+    let p = s .pre in
+    near-with (a .m) (a .service .now) (a .set) (a .next) _ _ (a .j) (p .rows .few-facilities) (p .moved)
+    (a .near) _ _ (p .near-is) (p .arrived-is) (c .before .before .inserted .ensures) (sym (c .before .goes-to .ensures) ∙ c .if1 .left)
+
+pub near-after-spec : {M : Type 1} → statement M
+near-after-spec =
+    tie.close (tie.spec inserted-requires goes-to-requires near-of-requires returns returns-2)

@@ -1,0 +1,58 @@
+-- Where the search stands between two moves, for private functions alone: a set, its clients' two nearest facilities, and the sums.
+use Prim.Native.Nat.{ℕ, _+_, _^_, _≤_, _<_}
+use mathlib.Core.Path.{_≡_}
+use mathlib.Core.Bool.{Bool, true, not, _&&_}
+use mathlib.Core.List.{List}
+use lib.Dec.{leb}
+use lib.ListN.{length, getD}
+use Rattle.model.specs.Least.{any}
+use Rattle.model.specs.Sets.{member}
+use Rattle.model.specs.Instance.{openingCost}
+use Rattle.search.specs.Tables.{tabled}
+use Rattle.sets.specs.Members.{membersOf}
+use Rattle.search.specs.Prices.{NearAt, Moved, goesTo, Kept}
+use Rattle.search.specs.declared.near.Near.{Near}
+
+-- Opening costs in a table of 32 places: of a facility at most question 5's bound. A place that is no facility may hold more, so that it
+-- never looks cheap.
+pub record Fees (m : ℕ) (opening : List ℕ) : Type 0 where
+  pub room : 32 ≤ length opening
+  pub small : (i : ℕ) → i < m → getD opening i 0 ≤ 50000000
+  pub high : (i : ℕ) → i < 32 → getD opening i 0 ≤ 2000000000
+
+-- the tables are those of the set, which has a facility
+pub record Standing (m n : ℕ) (service : List ℕ) (set : ℕ) (firsts seconds added more loss : List ℕ) : Type 0 where
+  pub kept : Kept m n service firsts seconds added more loss
+  pub near : (j : ℕ) → j < n → NearAt m service firsts seconds set j
+  pub below : set < 2 ^ m
+  pub some : any m (member set) ≡ true
+
+-- what the set costs with each facility added
+abbrev pub Costs : ℕ → ℕ → List ℕ → List ℕ → ℕ → List ℕ → List ℕ → Type 0
+Costs m n opening service set added costs =
+    (i : ℕ) → i < 32 → getD costs i 0 ≡ openingCost (tabled m n opening service) (member set) + getD opening i 0 + getD added i 0
+
+-- ---- from set to set, client by client
+
+-- the facilities of a set, listed
+pub record Listed (set : ℕ) (list : List ℕ) (count : ℕ) : Type 0 where
+  pub list-is : list ≡ membersOf set .list
+  pub count-is : count ≡ membersOf set .count
+
+-- the clients below j stand by one set, those from j on by another
+pub record NearFrom (m n : ℕ) (service firsts seconds : List ℕ) (set next j : ℕ) : Type 0 where
+  pub moved : (k : ℕ) → k < j → NearAt m service firsts seconds next k
+  pub waiting : (k : ℕ) → j ≤ k → k < n → NearAt m service firsts seconds set k
+
+-- the clients below j stand by a set, of those from j on the two are the same
+pub record NearUpTo (m n : ℕ) (service firsts seconds : List ℕ) (set j : ℕ) : Type 0 where
+  pub begun : (k : ℕ) → k < j → NearAt m service firsts seconds set k
+  pub waiting : (k : ℕ) → j ≤ k → k < n → getD seconds k 0 ≡ getD firsts k 0
+
+-- the other places of a table are as they were
+abbrev pub Others : ℕ → List ℕ → List ℕ → Type 0
+Others j before after = (k : ℕ) → ¬ (k ≡ j) → getD after k 0 ≡ getD before k 0
+
+-- a client keeps its two nearest: neither is the facility that went, and the one that came is no nearer
+unfoldable pub keeps : Near → ℕ → ℕ → Bool
+keeps near arrived went = leb (near .second) arrived && not (goesTo near went)

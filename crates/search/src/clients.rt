@@ -1,0 +1,250 @@
+// The clients' two nearest facilities and the sums over them, from set to set.
+ghost use mathlib.Core.Path.{_≡_};
+ghost use mathlib.Core.Bool.{true};
+ghost use Prim.Native.Nat.{_^_, _<_};
+ghost use lib.ListN.{getD};
+ghost use Rattle.model.specs.Least.{any};
+ghost use Rattle.model.specs.Sets.{member};
+ghost use Rattle.search.specs.Prices.{Kept, NearAt, Moved, newIn};
+ghost use Rattle.search.specs.Standing.{Standing, Listed, NearUpTo, NearFrom, Others, keeps};
+use crate::near::Near;
+use crate::near::arrival;
+use crate::near::goes_to;
+use crate::near::near_after;
+use crate::near::near_of;
+use crate::near::newcomer;
+use crate::prices::change;
+use crate::prices::enter;
+
+// Client j, of which nothing is counted yet.
+fn begin_client(
+    service: &[u32],
+    m: usize,
+    n: usize,
+    j: usize,
+    set: u32,
+    list: &[u8],
+    count: usize,
+    firsts: &mut [u32],
+    seconds: &mut [u32],
+    added: &mut [u32],
+    more: &mut [u32],
+    loss: &mut [u32],
+)
+    requires { ⌜ Kept m n (now service) (now firsts) (now seconds) (now added) (now more) (now loss) × (j < n) × (getD (now seconds) j 0 ≡ getD (now firsts) j 0) × (set < 2 ^ m) × Listed set (now list) count ⌝ }
+    ensures kept { λ _. ⌜ Kept m n (now (service .entry)) (now (firsts .exit)) (now (seconds .exit)) (now (added .exit)) (now (more .exit)) (now (loss .exit)) ⌝ }
+    ensures near { λ _. ⌜ NearAt m (now (service .entry)) (now (firsts .exit)) (now (seconds .exit)) set j ⌝ }
+    ensures firsts { λ _. ⌜ Others j (now (firsts .entry)) (now (firsts .exit)) ⌝ }
+    ensures seconds { λ _. ⌜ Others j (now (seconds .entry)) (now (seconds .exit)) ⌝ }
+{
+    let near = near_of(service, m, n, j, set, list, count);
+    enter(service, m, n, j, near, firsts, seconds, added, more, loss);
+}
+
+fn begin_clients(
+    service: &[u32],
+    m: usize,
+    n: usize,
+    set: u32,
+    list: &[u8],
+    count: usize,
+    firsts: &mut [u32],
+    seconds: &mut [u32],
+    added: &mut [u32],
+    more: &mut [u32],
+    loss: &mut [u32],
+)
+    requires { ⌜ Kept m n (now service) (now firsts) (now seconds) (now added) (now more) (now loss) × NearUpTo m n (now service) (now firsts) (now seconds) set 0 × (set < 2 ^ m) × Listed set (now list) count ⌝ }
+    ensures kept { λ _. ⌜ Kept m n (now (service .entry)) (now (firsts .exit)) (now (seconds .exit)) (now (added .exit)) (now (more .exit)) (now (loss .exit)) ⌝ }
+    ensures near { λ _. ⌜ NearUpTo m n (now (service .entry)) (now (firsts .exit)) (now (seconds .exit)) set n ⌝ }
+{
+    let mut j = 0;
+    while j < n {
+        begin_client(
+            service,
+            m,
+            n,
+            j,
+            set,
+            list,
+            count,
+            firsts,
+            seconds,
+            added,
+            more,
+            loss,
+        );
+        j += 1;
+    }
+}
+
+// Counts every client for a first set.
+pub(crate) fn begin(
+    service: &[u32],
+    m: usize,
+    n: usize,
+    set: u32,
+    firsts: &mut [u32],
+    seconds: &mut [u32],
+    added: &mut [u32],
+    more: &mut [u32],
+    loss: &mut [u32],
+)
+    requires { ⌜ Kept m n (now service) (now firsts) (now seconds) (now added) (now more) (now loss) × NearUpTo m n (now service) (now firsts) (now seconds) set 0 × (set < 2 ^ m) × (any m (member set) ≡ true) ⌝ }
+    ensures { λ _. ⌜ Standing m n (now (service .entry)) set (now (firsts .exit)) (now (seconds .exit)) (now (added .exit)) (now (more .exit)) (now (loss .exit)) ⌝ }
+{
+    let members = sets::members_of(set);
+    let list = members.list;
+    let count = members.count;
+    begin_clients(
+        service,
+        m,
+        n,
+        set,
+        &list,
+        count,
+        firsts,
+        seconds,
+        added,
+        more,
+        loss,
+    );
+}
+
+// Does the client keep its two nearest?
+fn keeps_both(near: Near, arrived: u32, went: usize) -> bool
+    ensures { λ r. ⌜ r ≡ keeps near arrived went ⌝ }
+{
+    near.second <= arrived && !goes_to(near, went)
+}
+
+// Client j after a move. Most clients keep both.
+fn move_client(
+    service: &[u32],
+    m: usize,
+    n: usize,
+    j: usize,
+    set: u32,
+    next: u32,
+    came: usize,
+    went: usize,
+    list: &[u8],
+    count: usize,
+    firsts: &mut [u32],
+    seconds: &mut [u32],
+    added: &mut [u32],
+    more: &mut [u32],
+    loss: &mut [u32],
+)
+    requires { ⌜ Kept m n (now service) (now firsts) (now seconds) (now added) (now more) (now loss) × (j < n) × NearAt m (now service) (now firsts) (now seconds) set j × Moved m set next came went × (next < 2 ^ m) × Listed next (now list) count ⌝ }
+    ensures kept { λ _. ⌜ Kept m n (now (service .entry)) (now (firsts .exit)) (now (seconds .exit)) (now (added .exit)) (now (more .exit)) (now (loss .exit)) ⌝ }
+    ensures near { λ _. ⌜ NearAt m (now (service .entry)) (now (firsts .exit)) (now (seconds .exit)) next j ⌝ }
+    ensures firsts { λ _. ⌜ Others j (now (firsts .entry)) (now (firsts .exit)) ⌝ }
+    ensures seconds { λ _. ⌜ Others j (now (seconds .entry)) (now (seconds .exit)) ⌝ }
+{
+    let near = Near {
+        first: firsts[j],
+        second: seconds[j],
+    };
+    let arrived = arrival(service, m, n, j, came);
+    if keeps_both(near, arrived, went) {
+        return;
+    }
+    let after = near_after(
+        service,
+        m,
+        n,
+        j,
+        set,
+        next,
+        near,
+        came,
+        went,
+        arrived,
+        list,
+        count,
+    );
+    change(service, m, n, j, after, firsts, seconds, added, more, loss);
+}
+
+fn move_clients(
+    service: &[u32],
+    m: usize,
+    n: usize,
+    set: u32,
+    next: u32,
+    came: usize,
+    went: usize,
+    list: &[u8],
+    count: usize,
+    firsts: &mut [u32],
+    seconds: &mut [u32],
+    added: &mut [u32],
+    more: &mut [u32],
+    loss: &mut [u32],
+)
+    requires { ⌜ Kept m n (now service) (now firsts) (now seconds) (now added) (now more) (now loss) × NearFrom m n (now service) (now firsts) (now seconds) set next 0 × Moved m set next came went × (next < 2 ^ m) × Listed next (now list) count ⌝ }
+    ensures kept { λ _. ⌜ Kept m n (now (service .entry)) (now (firsts .exit)) (now (seconds .exit)) (now (added .exit)) (now (more .exit)) (now (loss .exit)) ⌝ }
+    ensures near { λ _. ⌜ NearFrom m n (now (service .entry)) (now (firsts .exit)) (now (seconds .exit)) set next n ⌝ }
+{
+    let mut j = 0;
+    while j < n {
+        move_client(
+            service,
+            m,
+            n,
+            j,
+            set,
+            next,
+            came,
+            went,
+            list,
+            count,
+            firsts,
+            seconds,
+            added,
+            more,
+            loss,
+        );
+        j += 1;
+    }
+}
+
+// Goes from a set to the next one, which a move makes of it.
+pub(crate) fn move_to(
+    service: &[u32],
+    m: usize,
+    n: usize,
+    set: u32,
+    next: u32,
+    firsts: &mut [u32],
+    seconds: &mut [u32],
+    added: &mut [u32],
+    more: &mut [u32],
+    loss: &mut [u32],
+)
+    requires { ⌜ Standing m n (now service) set (now firsts) (now seconds) (now added) (now more) (now loss) × Moved m set next (newIn set next) (newIn next set) × (next < 2 ^ m) × (any m (member next) ≡ true) ⌝ }
+    ensures { λ _. ⌜ Standing m n (now (service .entry)) next (now (firsts .exit)) (now (seconds .exit)) (now (added .exit)) (now (more .exit)) (now (loss .exit)) ⌝ }
+{
+    let came = newcomer(set, next);
+    let went = newcomer(next, set);
+    let members = sets::members_of(next);
+    let list = members.list;
+    let count = members.count;
+    move_clients(
+        service,
+        m,
+        n,
+        set,
+        next,
+        came,
+        went,
+        &list,
+        count,
+        firsts,
+        seconds,
+        added,
+        more,
+        loss,
+    );
+}

@@ -1,0 +1,134 @@
+// A client's two nearest facilities: among those of a set, and after a move.
+ghost use mathlib.Core.Path.{_≡_};
+ghost use Prim.Native.Nat.{_^_, _<_};
+ghost use Rattle.model.specs.TwoLeast.{insert, packed};
+ghost use Rattle.sets.specs.Members.{membersOf};
+ghost use Rattle.search.specs.Prices.{Rows, entry, nearTwo, twoOf, nearOf, newAt, newIn, arrivalAt, goesTo};
+ghost use Rattle.search.specs.Moving.{Moving};
+
+// A client's two nearest facilities, each with its cost in one number.
+pub struct Near {
+    pub first: u32,
+    pub second: u32,
+}
+
+// Stands for a facility that is missing: the highest cost and the last facility.
+pub(crate) const FARTHEST: u32 = 32000031;
+
+const MOST_FACILITIES: usize = 32;
+
+// The two nearest of x and of two.
+fn inserted(x: u32, near: Near) -> Near
+    ensures { λ r. ⌜ r ≡ nearOf (insert x (twoOf near)) ⌝ }
+{
+    if x < near.first {
+        return Near {
+            first: x,
+            second: near.first,
+        };
+    }
+    if x < near.second {
+        return Near {
+            first: near.first,
+            second: x,
+        };
+    }
+    near
+}
+
+// Facility i and its cost to client j in one number.
+fn packed_at(service: &[u32], m: usize, n: usize, j: usize, i: usize) -> u32
+    requires { ⌜ Rows m n (now service) × (j < n) × (i < m) ⌝ }
+    ensures { λ r. ⌜ r ≡ packed (entry m (now (service .entry)) j) i ⌝ }
+{
+    32 * service[j * m + i] + (i as u32)
+}
+
+// The two nearest of the set's facilities, which are listed.
+pub(crate) fn near_of(
+    service: &[u32],
+    m: usize,
+    n: usize,
+    j: usize,
+    set: u32,
+    list: &[u8],
+    count: usize,
+) -> Near
+    requires { ⌜ Rows m n (now service) × (j < n) × (set < 2 ^ m) × (now list ≡ membersOf set .list) × (count ≡ membersOf set .count) ⌝ }
+    ensures { λ r. ⌜ r ≡ nearOf (nearTwo m (now (service .entry)) set j) ⌝ }
+{
+    let mut near = Near {
+        first: FARTHEST,
+        second: FARTHEST,
+    };
+    let mut t = 0;
+    while t < count {
+        near = inserted(packed_at(service, m, n, j, list[t] as usize), near);
+        t += 1;
+    }
+    near
+}
+
+// What the facility that came is to client j.
+pub(crate) fn arrival(service: &[u32], m: usize, n: usize, j: usize, came: usize) -> u32
+    requires { ⌜ Rows m n (now service) × (j < n) ⌝ }
+    ensures { λ r. ⌜ r ≡ arrivalAt m (now (service .entry)) came j ⌝ }
+{
+    if came < m {
+        return packed_at(service, m, n, j, came);
+    }
+    FARTHEST
+}
+
+// Is one of the two facility o?
+pub(crate) fn goes_to(near: Near, o: usize) -> bool
+    ensures { λ r. ⌜ r ≡ goesTo near o ⌝ }
+{
+    (near.first % 32) as usize == o || (near.second % 32) as usize == o
+}
+
+// Is i in the one set and not in the other?
+fn is_new(before: u32, after: u32, i: usize) -> bool
+    ensures { λ r. ⌜ r ≡ newAt before after i ⌝ }
+{
+    sets::has(after, i) && !sets::has(before, i)
+}
+
+// The least number in `after` and not in `before`; 32 where there is none.
+pub(crate) fn newcomer(before: u32, after: u32) -> usize
+    ensures { λ r. ⌜ r ≡ newIn before after ⌝ }
+{
+    let mut i = 0;
+    while i < MOST_FACILITIES {
+        if is_new(before, after, i) {
+            return i;
+        }
+        i += 1;
+    }
+    MOST_FACILITIES
+}
+
+// Client j's two nearest after a move, from those before it: counted again only where one of them went.
+pub(crate) fn near_after(
+    service: &[u32],
+    m: usize,
+    n: usize,
+    j: usize,
+    set: u32,
+    next: u32,
+    near: Near,
+    came: usize,
+    went: usize,
+    arrived: u32,
+    list: &[u8],
+    count: usize,
+) -> Near
+    requires { ⌜ Moving m n (now service) j set next near came went arrived (now list) count ⌝ }
+    ensures { λ r. ⌜ r ≡ nearOf (nearTwo m (now (service .entry)) next j) ⌝ }
+{
+    let with_arrival = inserted(arrived, near);
+    if goes_to(with_arrival, went) {
+        return near_of(service, m, n, j, next, list, count);
+    }
+    with_arrival
+}
