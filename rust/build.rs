@@ -1,13 +1,18 @@
-//! Links the proved library that `rt staticlib exports` writes.
+//! Links the proved libraries that `rt staticlib` writes: the planner's calls, and for the benchmark the same without question 6.
 use std::path::Path;
 
 fn main() {
     let folder = Path::new(env!("CARGO_MANIFEST_DIR")).join("../target/staticlib");
-    let library = folder.join("libexports.a");
-    if !library.exists() {
-        panic!("there is no proved library yet: run `rt staticlib exports` at the top of the repository first");
-    }
     println!("cargo:rustc-link-search=native={}", folder.display());
-    println!("cargo:rustc-link-lib=static=exports");
-    println!("cargo:rerun-if-changed={}", library.display());
+    for name in ["exports", "timing"] {
+        let library = folder.join(format!("lib{name}.a"));
+        if !library.exists() {
+            panic!(
+                "{} is not there yet: run `rt staticlib {name}` at the top of the repository first",
+                library.display()
+            );
+        }
+        println!("cargo:rustc-link-lib=static={name}");
+        println!("cargo:rerun-if-changed={}", library.display());
+    }
 }

@@ -2,6 +2,8 @@
 //!
 //! Every call takes any bytes, any set, any count and any area. A refused call gives document 01's number and leaves the area as
 //! it was.
+pub mod without_rule;
+
 use crate::{Answer, Counts, Written};
 
 /// Each takes a slice as its pointer and its length. A slice of Rust is what `planner.h` asks of the two, and an area lent as
@@ -25,9 +27,7 @@ mod raw {
 
 /// The counts of yards and farms, or the number of the first question of 1 to 6 that is answered no.
 pub fn read(sheet: &[u8]) -> Answer<Counts> {
-    let result = unsafe { raw::planner_read(sheet.as_ptr(), sheet.len()) };
-    accepted(result)?;
-    Ok(Counts { yards: (result >> 8 & 0xFF) as usize, farms: (result >> 16 & 0xFF) as usize })
+    counted(unsafe { raw::planner_read(sheet.as_ptr(), sheet.len()) })
 }
 
 /// The length of a farm's stretch of the sheet: 8 bytes for each yard; 0 for a farm n or above, and for a sheet that questions 1
@@ -62,6 +62,12 @@ fn accepted(result: u64) -> Answer<()> {
         0 => Ok(()),
         number => Err(number),
     }
+}
+
+/// Bits 8 to 15: the yards; bits 16 to 23: the farms.
+fn counted(result: u64) -> Answer<Counts> {
+    accepted(result)?;
+    Ok(Counts { yards: (result >> 8 & 0xFF) as usize, farms: (result >> 16 & 0xFF) as usize })
 }
 
 /// Bits 8 to 31: the bytes written; bits 32 to 63: the moves.

@@ -41,21 +41,18 @@ module _ (isOpen : Bool) (yard haul : ℕ) (b : Nearest) where
   unfolding closer
   takes e = rw e
 
-  pub closer-closed : isOpen ≡ false → b ≡ closer isOpen yard haul b
-  closer-closed o = keeps (rw o)
-
-  pub closer-stays : b .found ≡ true → leb (b .haul) haul ≡ true → b ≡ closer isOpen yard haul b
+  closer-stays : b .found ≡ true → leb (b .haul) haul ≡ true → b ≡ closer isOpen yard haul b
   closer-stays e h = keeps (rw (e, le-ltb haul (b .haul) (leb-true (b .haul) haul h)) (and-false isOpen))
 
-  pub closer-first : isOpen ≡ true → b .found ≡ false → near true yard haul ≡ closer isOpen yard haul b
+  closer-first : isOpen ≡ true → b .found ≡ false → near true yard haul ≡ closer isOpen yard haul b
   closer-first o e = takes (rw (o, e))
 
-  pub closer-nearer : isOpen ≡ true → leb (b .haul) haul ≡ false → near true yard haul ≡ closer isOpen yard haul b
+  closer-nearer : isOpen ≡ true → leb (b .haul) haul ≡ false → near true yard haul ≡ closer isOpen yard haul b
   closer-nearer o h = takes (rw (o, lt-ltb haul (b .haul) (leb-false (b .haul) haul h)) (or-true (not (b .found))))
 
 -- ---- a loop over the yards
 
-pub nearest-none : (S : ℕ → Bool) (v : ℕ → ℕ) → near false 0 0 ≡ nearestBelow 0 S v
+nearest-none : (S : ℕ → Bool) (v : ℕ → ℕ) → near false 0 0 ≡ nearestBelow 0 S v
 unfolding nearestBelow any least arg
 nearest-none S v = refl
 
@@ -68,7 +65,7 @@ step i a x y k true false h c t = refl
 step i a x y k true true h true (less l) = rw (h refl, lt-ltb x k l, min-eq-left (le-of-lt l))
 step i a x y k true true h false (more l) = rw (h refl, le-ltb x k l, min-eq-right l)
 
-pub nearest-more : (S : ℕ → Bool) (v : ℕ → ℕ) (i : ℕ) → nearestBelow (i + 1) S v ≡ closer (S i) i (v i) (nearestBelow i S v)
+nearest-more : (S : ℕ → Bool) (v : ℕ → ℕ) (i : ℕ) → nearestBelow (i + 1) S v ≡ closer (S i) i (v i) (nearestBelow i S v)
 unfolding nearestBelow closer any least arg
 nearest-more S v i =
     rw add-one

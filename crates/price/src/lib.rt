@@ -6,7 +6,6 @@ mod nearest;
 mod plan;
 
 pub use nearest::Nearest;
-pub use nearest::closer;
 pub use nearest::nearest_yard;
 pub use plan::KIND_FARM;
 pub use plan::KIND_MOVES;

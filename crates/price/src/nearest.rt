@@ -4,7 +4,7 @@ ghost use Prim.Native.Nat.{_+_, _*_, _≤_, min};
 ghost use lib.ListN.{length};
 ghost use Rattle.sets.specs.Members.{risingBelow};
 ghost use Rattle.sheet.specs.Sheet.{records};
-ghost use Rattle.price.specs.Nearest.{closer, amountAt, nearestOn};
+ghost use Rattle.price.specs.Nearest.{amountAt, nearestOn};
 use sheet::Record;
 
 // What the part of a number counts for that begins at bit 32.
@@ -14,23 +14,6 @@ pub struct Nearest {
     pub found: bool,
     pub yard: usize,
     pub haul: u32,
-}
-
-// A yard, where it is open and nearer than b, else b.
-pub fn closer(is_open: bool, yard: usize, haul: u32, b: Nearest) -> Nearest
-    ensures { λ r. ⌜ r ≡ closer is_open yard haul b ⌝ }
-{
-    if !is_open {
-        return b;
-    }
-    if b.found && b.haul <= haul {
-        return b;
-    }
-    Nearest {
-        found: true,
-        yard,
-        haul,
-    }
 }
 
 // The nearest yard of the set on a farm's stretch of the sheet.

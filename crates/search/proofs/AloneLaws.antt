@@ -2,11 +2,10 @@
 use Prim.Native.Nat.{ℕ, _+_, _*_, _^_, _≤_, _<_}
 use native.Mathlib.Omega.{arith}
 use mathlib.Core.Path.{_≡_, refl, sym, ap, fun-ext, _∙_}
-use mathlib.Core.Bool.{Bool, true, false, or-false}
+use mathlib.Core.Bool.{Bool, false, or-false}
 use mathlib.Core.List.{List}
 use lib.Dec.{eqb}
 use lib.ListN.{getD}
-use Rattle.model.specs.Loops.{sum}
 use Rattle.model.specs.Sets.{member, plus}
 use Rattle.model.specs.TwoLeast.{Two, packed}
 use Rattle.model.specs.Instance.{Instance, nearest, openingCost, serviceCost, totalCost}
@@ -32,7 +31,7 @@ use Rattle.search.proofs.DescentLaws.{Cheapest, cheapest-one, cheapest-
 none : ℕ → Bool
 none k = false
 
-module _ (m n : ℕ) (opening service sums : List ℕ) (rows : Rows m n service) (columns : ColumnSums m n service sums) where
+module _ (m n : ℕ) (opening service kept : List ℕ) (rows : Rows m n service) (columns : ColumnSums m n service kept) where
   abbrev I : Instance
   I = tabled m n opening service
 
@@ -55,7 +54,7 @@ module _ (m n : ℕ) (opening service sums : List ℕ) (rows : Rows m n service)
         let with-i = nearest-with I 1000000 j (rows .few-facilities) (λ k l. rows .within (j * m + k)) none i facility refl in
         omega (arith, with-i, none-near j, rows .within (j * m + i))
 
-    served-alone : serviceCost I (plus none i) ≡ getD sums i 0
+    served-alone : serviceCost I (plus none i) ≡ getD kept (256 + i) 0
     served-alone =
         sym (service-sum m n opening service (plus none i))
         ∙ (sum-cong n (λ j l. serves j) ∙ sym (columns i (omega (arith, rows .few-facilities))))
@@ -68,7 +67,7 @@ module _ (m n : ℕ) (opening service sums : List ℕ) (rows : Rows m n service)
     unfolding none
     single = fun-ext (λ k. member-single i k ∙ sym (or-false (eqb i k)))
 
-    pub alone-cost : tableCost m n opening service (2 ^ i) ≡ getD opening i 0 + getD sums i 0
+    pub alone-cost : tableCost m n opening service (2 ^ i) ≡ getD opening i 0 + getD kept (256 + i) 0
     unfolding tableCost openCost totalCost
     alone-cost =
         ap (λ (S : ℕ → Bool). openingCost I S + serviceCost I S) single ∙ omega (arith, opened-alone, served-alone)
@@ -78,12 +77,12 @@ module _ (m n : ℕ) (opening service sums : List ℕ) (rows : Rows m n service)
   abbrev cost : ℕ → ℕ
   cost = tableCost m n opening service
 
-  pub alone-first : (k : ℕ) → 0 < m → k ≡ getD opening 0 0 + getD sums 0 0 → Cheapest cost (record { set = 1; cost = k }) 1
+  pub alone-first : (k : ℕ) → 0 < m → k ≡ getD opening 0 0 + getD kept 256 0 → Cheapest cost (record { set = 1; cost = k }) 1
   alone-first k some e = cheapest-one cost (record { set = 1; cost = k }) (prices cost 1 k (e ∙ sym (alone-cost 0 some)))
 
   -- a turn, with what its calls answer
   pub alone-more : (i x k : ℕ) (b r : Priced) → 1 ≤ i → i < m → Cheapest cost b i → x ≡ with32 0 i
-      → k ≡ getD opening i 0 + getD sums i 0 → r ≡ cheaper x k b → Cheapest cost r (i + 1)
+      → k ≡ getD opening i 0 + getD kept (256 + i) 0 → r ≡ cheaper x k b → Cheapest cost r (i + 1)
   alone-more i x k b r some facility e x-is k-is h =
       let few : i < 32 = omega (arith, rows .few-facilities) in
       let single : x ≡ 2 ^ i = x-is ∙ with32-below 0 i few ∙ with-none i in

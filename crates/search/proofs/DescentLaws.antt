@@ -6,6 +6,7 @@ use native.Mathlib.Omega.{arith}
 use mathlib.Core.Path.{_≡_, refl, sym, ap, ap₂, subst, fun-ext, _∙_}
 use mathlib.Core.Bool.{true}
 use mathlib.Core.List.{List}
+use lib.ListN.{length, getD}
 use Rattle.model.specs.Least.{any, arg}
 use Rattle.model.specs.Sets.{member}
 use Rattle.model.specs.Search.{Among, better, next, descend, search}
@@ -20,12 +21,18 @@ use Rattle.sheet.specs.Sheet.{instanceBy}
 use Rattle.sets.specs.Within.{with32}
 use Rattle.sets.proofs.SetLaws.{with32-below}
 use Rattle.search.specs.Tables.{tabled, tableCost, Holds, Zeros}
+use Rattle.search.specs.Amounts.{Behind, Front}
+use Rattle.search.specs.Prices.{Rows, Kept}
+use Rattle.search.specs.Shifting.{ColumnSums, Aside}
+use Rattle.search.specs.Standing.{NearUpTo}
 use Rattle.search.specs.Settling.{priced, neighboursBy, settledAt, openEnd, limitedEnd}
 use Rattle.search.specs.declared.moves.Priced.{Priced}
 use Rattle.search.specs.declared.descent.Settled.{Settled}
 use Rattle.search.specs.declared.moves.Neighbourhood.{Neighbourhood}
 use Rattle.search.specs.declared.moves.Neighbourhood.the-variants.{AddDropSwap, Swap}
 use Rattle.search.proofs.TableLaws.{open-cost-is, limited-cost-is}
+use Rattle.search.proofs.KeptLaws.{kept-start}
+use Rattle.search.proofs.ClientLaws.{none-begun}
 use Rattle.search.proofs.MoveLaws.{set-of, cost-of}
 
 -- ---- the start
@@ -103,6 +110,20 @@ module _ (cost : ℕ → ℕ) (neighbours : ℕ → List ℕ) where
         let stays : cost (b .set) ≤ cost (next cost neighbours (b .set)) = rw (← c-cost, ← b-cost) no-lower in
         ap (λ (k : ℕ). record { set = b .set; cost = k; moves = made }) b-cost
         ∙ ap (settledAt cost) (sym (g .same ∙ descend-stops cost neighbours (start .cost - made) (b .set) made stays))
+
+-- ---- before the first client is counted: the front of the kept table is set, and then the sums of the columns are added up
+
+module _ (m n : ℕ) (service : List ℕ) where
+  pub fresh-kept : (before front kept : List ℕ) → Aside front kept → Zeros 1344 before → Front 256 32000031 front → Behind 256 before front
+      → Rows m n service → 1344 ≤ length kept → ColumnSums m n service kept → Kept m n service kept
+  fresh-kept before front kept aside zeros far behind rows room columns =
+      kept-start m n service kept rows room (λ k l. aside .below k l ∙ far k l) columns
+      (λ k l r. aside .above k l ∙ (behind k (omega arith) ∙ zeros k r))
+
+  pub fresh-near : (front kept : List ℕ) (set : ℕ) → Aside front kept → Front 256 32000031 front → n ≤ 128 → NearUpTo m n service kept set 0
+  fresh-near front kept set aside far few =
+      let farthest : (k : ℕ) → k < 256 → getD kept k 0 ≡ 32000031 = λ k l. aside .below k l ∙ far k l in
+      none-begun m n service kept set (λ j l. farthest (128 + j) (omega arith) ∙ sym (farthest j (omega arith)))
 
 -- ---- one step
 

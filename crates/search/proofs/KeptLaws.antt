@@ -1,8 +1,8 @@
 -- Laws of the sums that the search keeps: how large they are, what they are at the start, and that they are kept as one client's two
--- nearest facilities change. A client whose two are one and the same adds nothing to `more` and `loss`, whatever facility it is; so a
+-- nearest facilities change. A client whose two are one and the same adds nothing to the sums from 288 on, whatever facility it is; so a
 -- client's two change in steps: its second comes to its first, both become another one, its second goes on from there.
 use Prim.Native.Nat.{ℕ, _+_, _-_, _*_, _/_, _%_, _≤_, _<_, min}
-use native.Mathlib.Nat.{zero-add}
+use native.Mathlib.Nat.{le-refl, lt-of-lt-of-le}
 use native.Mathlib.Omega.{arith}
 use mathlib.Core.Path.{_≡_, refl, sym, ap, ap₂, subst, _∙_}
 use mathlib.Core.Bool.{Bool}
@@ -10,14 +10,14 @@ use mathlib.Core.List.{List}
 use borrow.Author.Tests.{eq-eqb, ne-eqb, eqb-true, eqb-false, ltb-true, ltb-false}
 use lib.Dec.{eqb, ltb}
 use lib.ListN.{length, getD, set, length-set}
-use lib.Seq.{getD-set-same, getD-set-other, set-set, set-getD}
+use lib.Seq.{getD-set-same, getD-set-other}
 use Rattle.model.specs.Loops.{on}
 use Rattle.model.proofs.Bools.{cases}
 use Rattle.model.proofs.SumLaws.{sum-bound, sum-term, sum-cong, sum-zero, sum-change, on-zero, on-true, on-le}
 use Rattle.sheet.proofs.ShapeLaws.{row-within, few-hauls}
-use Rattle.search.specs.Tables.{Zeros}
-use Rattle.search.specs.Prices.{entry, Rows, addedSum, moreSum, lossSum, Kept}
-use Rattle.search.specs.Shifting.{Shiftable, Shifted, ColumnSums}
+use Rattle.search.specs.Prices.{entry, Rows, firstAt, secondAt, addedSum, moreSum, lossSum, Kept}
+use Rattle.search.specs.Shifting.{Shiftable, Shifted, ShiftedBoth, ColumnSums}
+use Rattle.search.specs.Standing.{PutAt}
 
 -- ---- one client's part in each sum, by its two nearest facilities
 
@@ -58,377 +58,464 @@ more-little o c first second small =
 loss-little : (o first second : ℕ) → second ≤ 32000031 → lossOf o first second ≤ 1000000
 loss-little o first second small = omega (arith, on-le (eqb (first % 32) o) (second / 32 - first / 32))
 
--- ---- tables that agree but at one client
-
-abbrev Agree : ℕ → List ℕ → List ℕ → Type 0
-Agree j after before = (k : ℕ) → ¬ (k ≡ j) → getD after k 0 ≡ getD before k 0
-
-agree-set : (j : ℕ) (l : List ℕ) (x : ℕ) → Agree j (set l j x) l
-agree-set j l x k ne = getD-set-other l j k x 0 ne
-
-module _ (m n : ℕ) (service firsts seconds firsts' seconds' : List ℕ) (j : ℕ) (client : j < n) (same-firsts : Agree j firsts' firsts)
-    (same-seconds : Agree j seconds' seconds) where
-  added-change : (i : ℕ) → addedSum m n service firsts' i + min (entry m service j i) (getD firsts j 0 / 32)
-      ≡ addedSum m n service firsts i + min (entry m service j i) (getD firsts' j 0 / 32)
-  unfolding addedSum
-  added-change i =
-      sum-change n j (λ j. min (entry m service j i) (getD firsts' j 0 / 32)) (λ j. min (entry m service j i) (getD firsts j 0 / 32))
-      client (λ k l ne. ap (λ (x : ℕ). min (entry m service k i) (x / 32)) (same-firsts k ne))
-
-  more-change : (o i : ℕ) → moreSum m n service firsts' seconds' o i + moreOf o (entry m service j i) (getD firsts j 0) (getD seconds j 0)
-      ≡ moreSum m n service firsts seconds o i + moreOf o (entry m service j i) (getD firsts' j 0) (getD seconds' j 0)
-  unfolding moreSum
-  more-change o i =
-      sum-change n j (λ j. moreOf o (entry m service j i) (getD firsts' j 0) (getD seconds' j 0))
-      (λ j. moreOf o (entry m service j i) (getD firsts j 0) (getD seconds j 0)) client
-      (λ k l ne. ap₂ (moreOf o (entry m service k i)) (same-firsts k ne) (same-seconds k ne))
-
-  loss-change : (o : ℕ) → lossSum n firsts' seconds' o + lossOf o (getD firsts j 0) (getD seconds j 0)
-      ≡ lossSum n firsts seconds o + lossOf o (getD firsts' j 0) (getD seconds' j 0)
-  unfolding lossSum
-  loss-change o =
-      sum-change n j (λ j. lossOf o (getD firsts' j 0) (getD seconds' j 0)) (λ j. lossOf o (getD firsts j 0) (getD seconds j 0)) client
-      (λ k l ne. ap₂ (lossOf o) (same-firsts k ne) (same-seconds k ne))
-
 -- ---- how large the sums are
 
-module _ {m n : ℕ} {service firsts seconds added more loss : List ℕ} (kept : Kept m n service firsts seconds added more loss) where
-  pub kept-added-small : (i : ℕ) → i < 32 → getD added i 0 ≤ 128000000
+module _ {m n : ℕ} {service kept : List ℕ} (sums : Kept m n service kept) where
+  added-small : (i : ℕ) → i < 32 → getD kept (256 + i) 0 ≤ 128000000
   unfolding addedSum
-  kept-added-small i l =
-      let f : ℕ → ℕ = λ j. min (entry m service j i) (getD firsts j 0 / 32) in
-      let bound = sum-bound n 1000000 f (λ j l. omega (arith, kept .rows .within (j * m + i))) in
-      omega (arith, kept .added-is i l, bound, kept .rows .few-clients)
+  added-small i l =
+      let f : ℕ → ℕ = λ j. min (entry m service j i) (firstAt kept j / 32) in
+      let bound = sum-bound n 1000000 f (λ j l. omega (arith, sums .rows .within (j * m + i))) in
+      omega (arith, sums .added-is i l, bound, sums .rows .few-clients)
 
-  more-small : (o i : ℕ) → o < 32 → i < 32 → getD more (32 * o + i) 0 ≤ 128000000
+  loss-small : (o : ℕ) → o < 32 → getD kept (288 + o) 0 ≤ 128000000
+  unfolding lossSum
+  loss-small o l =
+      let f : ℕ → ℕ = λ j. lossOf o (firstAt kept j) (secondAt kept j) in
+      let bound = sum-bound n 1000000 f (λ j l. loss-little o (firstAt kept j) (secondAt kept j) (sums .within j l)) in
+      omega (arith, sums .loss-is o l, bound, sums .rows .few-clients)
+
+  more-small : (o i : ℕ) → o < 32 → i < 32 → getD kept (320 + 32 * o + i) 0 ≤ 128000000
   unfolding moreSum
   more-small o i lo li =
-      let f : ℕ → ℕ = λ j. moreOf o (entry m service j i) (getD firsts j 0) (getD seconds j 0) in
-      let bound = sum-bound n 1000000 f (λ j l. more-little o _ (getD firsts j 0) (getD seconds j 0) (kept .rows .within (j * m + i))) in
-      omega (arith, kept .more-is o i lo li, bound, kept .rows .few-clients)
+      let f : ℕ → ℕ = λ j. moreOf o (entry m service j i) (firstAt kept j) (secondAt kept j) in
+      let bound = sum-bound n 1000000 f (λ j l. more-little o _ (firstAt kept j) (secondAt kept j) (sums .rows .within (j * m + i))) in
+      omega (arith, sums .more-is o i lo li, bound, sums .rows .few-clients)
 
-  pub kept-more-small : (k : ℕ) → k < 1024 → getD more k 0 ≤ 128000000
-  kept-more-small k l =
-      let e : 32 * (k / 32) + k % 32 ≡ k = omega arith in
-      rw e at (more-small (k / 32) (k % 32) (omega arith) (omega arith))
-
-  pub kept-loss-small : (o : ℕ) → o < 32 → getD loss o 0 ≤ 128000000
-  unfolding lossSum
-  kept-loss-small o l =
-      let f : ℕ → ℕ = λ j. lossOf o (getD firsts j 0) (getD seconds j 0) in
-      let bound = sum-bound n 1000000 f (λ j l. loss-little o (getD firsts j 0) (getD seconds j 0) (kept .within j l)) in
-      omega (arith, kept .loss-is o l, bound, kept .rows .few-clients)
+  pub kept-small : (k : ℕ) → 256 ≤ k → k < 1344 → getD kept k 0 ≤ 128000000
+  kept-small k from below =
+      cases (ltb k 288)
+      (λ e. let l = ltb-true k 288 e in at-place (256 + (k - 256)) (omega arith) (added-small (k - 256) (omega arith)))
+      (λ e. let g = ltb-false k 288 e in
+      cases (ltb k 320)
+      (λ e. let l = ltb-true k 320 e in at-place (288 + (k - 288)) (omega arith) (loss-small (k - 288) (omega arith)))
+      (λ e. let h = ltb-false k 320 e in
+      at-place (320 + 32 * ((k - 320) / 32) + (k - 320) % 32) (omega arith)
+      (more-small ((k - 320) / 32) ((k - 320) % 32) (omega arith) (omega arith))))
+    where
+      at-place : (p : ℕ) → p ≡ k → getD kept p 0 ≤ 128000000 → getD kept k 0 ≤ 128000000
+      at-place p e = subst (λ (k : ℕ). getD kept k 0 ≤ 128000000) e
 
   -- ---- what a change requires
 
   module _ (j : ℕ) (client : j < n) where
     pub kept-row-small : j * m ≤ 4096
     kept-row-small =
-        omega (arith, row-within m n j client, few-hauls m n (kept .rows .few-facilities) (kept .rows .few-clients))
+        omega (arith, row-within m n j client, few-hauls m n (sums .rows .few-facilities) (sums .rows .few-clients))
 
     row-room : j * m + 32 ≤ length service
-    row-room = omega (arith, row-within m n j client, kept .rows .room)
+    row-room = omega (arith, row-within m n j client, sums .rows .room)
 
-    -- a client's part in `more` is at most the sum
-    part : (i : ℕ) → i < 32
-        → min (entry m service j i) (getD seconds j 0 / 32) - min (entry m service j i) (getD firsts j 0 / 32)
-        ≤ getD more (32 * (getD firsts j 0 % 32) + i) 0
+    -- a client's part in a sum is at most the sum
+    more-part : (i : ℕ) → i < 32
+        → min (entry m service j i) (secondAt kept j / 32) - min (entry m service j i) (firstAt kept j / 32)
+        ≤ getD kept (320 + 32 * (firstAt kept j % 32) + i) 0
     unfolding moreSum
-    part i l =
-        let o = getD firsts j 0 % 32 in
-        let x = min (entry m service j i) (getD seconds j 0 / 32) - min (entry m service j i) (getD firsts j 0 / 32) in
+    more-part i l =
+        let o = firstAt kept j % 32 in
+        let x = min (entry m service j i) (secondAt kept j / 32) - min (entry m service j i) (firstAt kept j / 32) in
         omega (
           arith,
-          kept .more-is o i (omega arith) l,
-          sum-term n (λ j. moreOf o (entry m service j i) (getD firsts j 0) (getD seconds j 0)) j client,
+          sums .more-is o i (omega arith) l,
+          sum-term n (λ j. moreOf o (entry m service j i) (firstAt kept j) (secondAt kept j)) j client,
+          on-owner o o x refl,
+        )
+
+    loss-enough : secondAt kept j / 32 ≤ getD kept (288 + firstAt kept j % 32) 0 + firstAt kept j / 32
+    unfolding lossSum
+    loss-enough =
+        let o = firstAt kept j % 32 in
+        let x = secondAt kept j / 32 - firstAt kept j / 32 in
+        omega (
+          arith,
+          sums .loss-is o (omega arith),
+          sum-term n (λ j. lossOf o (firstAt kept j) (secondAt kept j)) j client,
           on-owner o o x refl,
         )
 
     -- to change its second nearest
-    pub second-ready : (second : ℕ) → getD firsts j 0 ≤ second
-        → Shiftable service (j * m) (getD seconds j 0 / 32) (second / 32) more (32 * (getD firsts j 0 % 32))
+    pub second-ready : (second : ℕ) → firstAt kept j ≤ second
+        → Shiftable service (j * m) (secondAt kept j / 32) (second / 32) kept (320 + 32 * (firstAt kept j % 32))
     second-ready second ordered =
         record {
           row-room = row-room;
-          room = omega (arith, kept .more-room);
+          room = omega (arith, sums .room);
           enough =
               λ i l. omega (
                 arith,
-                part i l,
-                more-fills (entry m service j i) (getD firsts j 0 / 32) (getD seconds j 0 / 32) (omega (arith, kept .ordered j client)),
+                more-part i l,
+                more-fills (entry m service j i) (firstAt kept j / 32) (secondAt kept j / 32) (omega (arith, sums .ordered j client)),
               );
-          small = λ i l. omega (arith, more-small (getD firsts j 0 % 32) i (omega arith) l, kept .rows .within (j * m + i));
+          small = λ i l. omega (arith, more-small (firstAt kept j % 32) i (omega arith) l, sums .rows .within (j * m + i));
         }
-
-    -- and its part in `loss` is at most the sum
-    pub loss-enough : getD seconds j 0 / 32 ≤ getD loss (getD firsts j 0 % 32) 0 + getD firsts j 0 / 32
-    unfolding lossSum
-    loss-enough =
-        let o = getD firsts j 0 % 32 in
-        let x = getD seconds j 0 / 32 - getD firsts j 0 / 32 in
-        omega (
-          arith,
-          kept .loss-is o (omega arith),
-          sum-term n (λ j. lossOf o (getD firsts j 0) (getD seconds j 0)) j client,
-          on-owner o o x refl,
-        )
 
     -- to change both, where they are one and the same
     pub enter-ready : (first second : ℕ) → first ≤ second
-        → Shiftable service (j * m) (getD firsts j 0 / 32) (first / 32) added 0
-        × Shiftable service (j * m) (first / 32) (second / 32) more (32 * (first % 32))
+        → Shiftable service (j * m) (firstAt kept j / 32) (first / 32) kept 256
+        × Shiftable service (j * m) (first / 32) (second / 32) kept (320 + 32 * (first % 32))
+        × (320 ≤ 320 + 32 * (first % 32))
     unfolding addedSum
     enter-ready first second ordered = (
       record {
         row-room = row-room;
-        room = omega (arith, kept .added-room);
+        room = omega (arith, sums .room);
         enough =
-            λ i l. rw zero-add
-            (omega (
+            λ i l. omega (
               arith,
-              kept .added-is i l,
-              sum-term n (λ j. min (entry m service j i) (getD firsts j 0 / 32)) j client,
-              least-fills (entry m service j i) (getD firsts j 0 / 32),
-            ));
-        small = λ i l. rw zero-add (omega (arith, kept-added-small i l, kept .rows .within (j * m + i)));
+              sums .added-is i l,
+              sum-term n (λ j. min (entry m service j i) (firstAt kept j / 32)) j client,
+              least-fills (entry m service j i) (firstAt kept j / 32),
+            );
+        small = λ i l. omega (arith, added-small i l, sums .rows .within (j * m + i));
       },
       record {
         row-room = row-room;
-        room = omega (arith, kept .more-room);
+        room = omega (arith, sums .room);
         enough = λ i l. omega arith;
-        small = λ i l. omega (arith, more-small (first % 32) i (omega arith) l, kept .rows .within (j * m + i));
+        small = λ i l. omega (arith, more-small (first % 32) i (omega arith) l, sums .rows .within (j * m + i));
       },
+      omega arith,
     )
 
 -- ---- kept as a client's two nearest change
 
--- what holds at each place of a table holds where one place has another number
-placed : (P : ℕ → ℕ → Type 0) (n j x : ℕ) (l : List ℕ) → j < length l → P j x
-    → ((k : ℕ) → k < n → ¬ (k ≡ j) → P k (getD l k 0)) → (k : ℕ) → k < n → P k (getD (set l j x) k 0)
-placed P n j x l room here others k below =
-    cases (eqb k j)
-    (λ e. let same = eqb-true k j e in
-    subst (λ (k : ℕ). P k (getD (set l j x) k 0)) (sym same) (subst (P j) (sym (getD-set-same l j x 0 room)) here))
-    (λ e. let ne = eqb-false k j e in subst (P k) (sym (getD-set-other l j k x 0 ne)) (others k below ne))
+-- a number that follows a sum as the sum goes on
+follows : (x s x′ s′ p q : ℕ) → x ≡ s → s′ + p ≡ s + q → x′ + p ≡ x + q → x′ ≡ s′
+follows x s x′ s′ p q e sum number = omega arith
 
--- a row of `more` but row o is as it was
-other-rows : (service before after : List ℕ) (row plus minus o p i : ℕ) → Shifted 32 service row plus minus before (32 * o) after
-    → ¬ (p ≡ o) → i < 32 → getD after (32 * p + i) 0 ≡ getD before (32 * p + i) 0
-other-rows service before after row plus minus o p i shifted ne l =
-    cases (ltb p o)
-    (λ e. let below = ltb-true p o e in shifted .below (32 * p + i) (omega arith))
-    (λ e. let above = ltb-false p o e in shifted .above (32 * p + i) (omega arith))
+module _ {m n : ℕ} {service before : List ℕ} (sums : Kept m n service before) (j : ℕ) (client : j < n) (first second : ℕ) (after : List ℕ)
+    (put : PutAt j first second before after) where
+  firsts-stay : (k : ℕ) → k < n → ¬ (k ≡ j) → firstAt after k ≡ firstAt before k
+  firsts-stay k l ne = put .others .firsts k (lt-of-lt-of-le l (sums .rows .few-clients)) ne
 
-module _ {m n : ℕ} {service firsts seconds added more loss : List ℕ} (kept : Kept m n service firsts seconds added more loss)
-    (j : ℕ) (client : j < n) where
+  seconds-stay : (k : ℕ) → k < n → ¬ (k ≡ j) → secondAt after k ≡ secondAt before k
+  seconds-stay k l ne = put .others .seconds k (lt-of-lt-of-le l (sums .rows .few-clients)) ne
+
+  added-change : (i : ℕ) → addedSum m n service after i + min (entry m service j i) (firstAt before j / 32)
+      ≡ addedSum m n service before i + min (entry m service j i) (first / 32)
+  unfolding addedSum
+  added-change i =
+      sum-change n j (λ j. min (entry m service j i) (firstAt after j / 32)) (λ j. min (entry m service j i) (firstAt before j / 32))
+      client (λ k l ne. ap (λ (x : ℕ). min (entry m service k i) (x / 32)) (firsts-stay k l ne))
+      ∙ ap (λ (x : ℕ). addedSum m n service before i + min (entry m service j i) (x / 32)) (put .first-is)
+
+  more-change : (o i : ℕ) → moreSum m n service after o i + moreOf o (entry m service j i) (firstAt before j) (secondAt before j)
+      ≡ moreSum m n service before o i + moreOf o (entry m service j i) first second
+  unfolding moreSum
+  more-change o i =
+      sum-change n j (λ j. moreOf o (entry m service j i) (firstAt after j) (secondAt after j))
+      (λ j. moreOf o (entry m service j i) (firstAt before j) (secondAt before j)) client
+      (λ k l ne. ap₂ (moreOf o (entry m service k i)) (firsts-stay k l ne) (seconds-stay k l ne))
+      ∙ ap₂ (λ (x y : ℕ). moreSum m n service before o i + moreOf o (entry m service j i) x y) (put .first-is) (put .second-is)
+
+  loss-change : (o : ℕ) → lossSum n after o + lossOf o (firstAt before j) (secondAt before j)
+      ≡ lossSum n before o + lossOf o first second
+  unfolding lossSum
+  loss-change o =
+      sum-change n j (λ j. lossOf o (firstAt after j) (secondAt after j)) (λ j. lossOf o (firstAt before j) (secondAt before j)) client
+      (λ k l ne. ap₂ (lossOf o) (firsts-stay k l ne) (seconds-stay k l ne))
+      ∙ ap₂ (λ (x y : ℕ). lossSum n before o + lossOf o x y) (put .first-is) (put .second-is)
+
+  -- it is enough that each number goes on as the client's part in it does
+  kept-change : first ≤ second → second ≤ 32000031 → 1344 ≤ length after
+      → ((i : ℕ) → i < 32 → getD after (256 + i) 0 + min (entry m service j i) (firstAt before j / 32)
+      ≡ getD before (256 + i) 0 + min (entry m service j i) (first / 32))
+      → ((o : ℕ) → o < 32 → getD after (288 + o) 0 + lossOf o (firstAt before j) (secondAt before j)
+      ≡ getD before (288 + o) 0 + lossOf o first second)
+      → ((o i : ℕ) → o < 32 → i < 32
+      → getD after (320 + 32 * o + i) 0 + moreOf o (entry m service j i) (firstAt before j) (secondAt before j)
+      ≡ getD before (320 + 32 * o + i) 0 + moreOf o (entry m service j i) first second)
+      → Kept m n service after
+  kept-change ordered within room added loss more =
+      record {
+        rows = sums .rows;
+        room = room;
+        ordered =
+            client-by-client (λ k. firstAt after k ≤ secondAt after k) (omega (arith, put .first-is, put .second-is))
+            (λ k l ne. omega (arith, firsts-stay k l ne, seconds-stay k l ne, sums .ordered k l));
+        within =
+            client-by-client (λ k. secondAt after k ≤ 32000031) (omega (arith, put .second-is))
+            (λ k l ne. omega (arith, seconds-stay k l ne, sums .within k l));
+        added-is = λ i l. follows _ _ _ _ _ _ (sums .added-is i l) (added-change i) (added i l);
+        loss-is = λ o l. follows _ _ _ _ _ _ (sums .loss-is o l) (loss-change o) (loss o l);
+        more-is = λ o i lo li. follows _ _ _ _ _ _ (sums .more-is o i lo li) (more-change o i) (more o i lo li);
+      }
+    where
+      client-by-client : (P : ℕ → Type 0) → P j → ((k : ℕ) → k < n → ¬ (k ≡ j) → P k) → (k : ℕ) → k < n → P k
+      client-by-client P here others k l =
+          cases (eqb k j) (λ e. subst P (sym (eqb-true k j e)) here) (λ e. others k l (eqb-false k j e))
+
+-- ---- the second goes on
+
+-- the table with a loss and a second stored
+module _ (mid : List ℕ) (room : 1344 ≤ length mid) (j o x second : ℕ) (client : j < 128) (facility : o < 32) where
+  abbrev stored : List ℕ
+  stored = set (set mid (288 + o) x) (128 + j) second
+
+  stored-room : 1344 ≤ length stored
+  stored-room = rw (length-set, length-set) room
+
+  stored-else : (k : ℕ) → ¬ (k ≡ 128 + j) → ¬ (k ≡ 288 + o) → getD stored k 0 ≡ getD mid k 0
+  stored-else k ne other = getD-set-other (set mid (288 + o) x) (128 + j) k second 0 ne ∙ getD-set-other mid (288 + o) k x 0 other
+
+  stored-second : getD stored (128 + j) 0 ≡ second
+  stored-second = getD-set-same (set mid (288 + o) x) (128 + j) second 0 (rw length-set (omega arith))
+
+  stored-loss : getD stored (288 + o) 0 ≡ x
+  stored-loss =
+      getD-set-other (set mid (288 + o) x) (128 + j) (288 + o) second 0 (λ q. omega arith) ∙ getD-set-same mid (288 + o) x 0 (omega arith)
+
+  -- where the table held the other clients' places and these before, it is a put
+  stored-put : (before : List ℕ) (first : ℕ) → getD mid j 0 ≡ first
+      → ((k : ℕ) → k < 256 → ¬ (k ≡ j) → getD mid k 0 ≡ getD before k 0) → PutAt j first second before stored
+  stored-put before first here same =
+      record {
+        first-is = stored-else j (λ q. omega arith) (λ q. omega arith) ∙ here;
+        second-is = stored-second;
+        others =
+            record {
+              firsts = λ k l ne. stored-else k (λ q. omega arith) (λ q. omega arith) ∙ same k (omega arith) ne;
+              seconds = λ k l ne. stored-else (128 + k) (λ q. ne (omega arith)) (λ q. omega arith) ∙ same (128 + k) (omega arith) (λ q. omega arith);
+            };
+      }
+
+-- from place 288 on one row alone has been shifted
+record RowShifted (service : List ℕ) (row o plus minus : ℕ) (before mid : List ℕ) : Type 0 where
+  inside : (i : ℕ) → i < 32
+      → getD mid (320 + 32 * o + i) 0 + (getD service (row + i) 0 - minus)
+      ≡ getD before (320 + 32 * o + i) 0 + (getD service (row + i) 0 - plus)
+  below : (k : ℕ) → 288 ≤ k → k < 320 + 32 * o → getD mid k 0 ≡ getD before k 0
+  above : (k : ℕ) → 320 + 32 * o + 32 ≤ k → getD mid k 0 ≡ getD before k 0
+
+loss-goes-on : (x first last second : ℕ) → first ≤ last → first ≤ second → last ≤ x + first
+    → (x + second - last) + (last - first) ≡ x + (second - first)
+loss-goes-on x first last second l g enough = omega arith
+
+more-goes-on : (x y c first last second : ℕ) → first ≤ last → first ≤ second → y + (c - second) ≡ x + (c - last)
+    → y + (min c last - min c first) ≡ x + (min c second - min c first)
+more-goes-on x y c first last second l g moved =
+    let a = more-fills c first last l in
+    let b = more-fills c first second g in
+    from-fills x y (min c last - min c first) (min c second - min c first) (c - last) (c - second) (c - first) a b moved
+  where
+    from-fills : (x y p q r s t : ℕ) → p + r ≡ t → q + s ≡ t → y + s ≡ x + r → y + p ≡ x + q
+    from-fills x y p q r s t a b e = omega arith
+
+divided : (x y : ℕ) → x ≤ y → x / 32 ≤ y / 32
+divided x y l = omega arith
+
+module _ {service before mid : List ℕ} (row j first last second : ℕ) (client : j < 128) (ordered : first ≤ last) (above-first : first ≤ second)
+    (room : 1344 ≤ length mid) (shifted : RowShifted service row (first % 32) (last / 32) (second / 32) before mid)
+    (enough : last / 32 ≤ getD before (288 + first % 32) 0 + first / 32) where
   abbrev owner : ℕ
-  owner = getD firsts j 0 % 32
+  owner = first % 32
+
+  abbrev new-loss : ℕ
+  new-loss = getD mid (288 + owner) 0 + second / 32 - last / 32
+
+  abbrev after : List ℕ
+  after = set (set mid (288 + owner) new-loss) (128 + j) second
+
+  facility : owner < 32
+  facility = omega arith
+
+  loss-step : (o : ℕ) → o < 32 → getD after (288 + o) 0 + lossOf o first last ≡ getD before (288 + o) 0 + lossOf o first second
+  loss-step o l =
+      cases (eqb owner o)
+      (λ e. let same : owner ≡ o = eqb-true owner o e in
+      subst (λ (o : ℕ). getD after (288 + o) 0 + lossOf o first last ≡ getD before (288 + o) 0 + lossOf o first second) same here)
+      (λ e. let ne : ¬ (owner ≡ o) = eqb-false owner o e in
+      ap₂ _+_
+      (stored-else mid room j owner new-loss second client facility (288 + o) (λ q. omega arith) (λ q. ne (omega arith)) ∙ shifted .below (288 + o) (omega arith) (omega arith))
+      (on-other owner o (last / 32 - first / 32) ne ∙ sym (on-other owner o (second / 32 - first / 32) ne)))
+    where
+      held : getD mid (288 + owner) 0 ≡ getD before (288 + owner) 0
+      held = shifted .below (288 + owner) (omega arith) (omega arith)
+
+      here : getD after (288 + owner) 0 + lossOf owner first last ≡ getD before (288 + owner) 0 + lossOf owner first second
+      here =
+          ap₂ _+_
+          (stored-loss mid room j owner new-loss second client facility ∙ ap (λ (x : ℕ). x + second / 32 - last / 32) held)
+          (on-owner owner owner (last / 32 - first / 32) refl)
+          ∙ loss-goes-on (getD before (288 + owner) 0) (first / 32) (last / 32) (second / 32) (divided first last ordered) (divided first second above-first) enough
+          ∙ ap (λ (x : ℕ). getD before (288 + owner) 0 + x) (sym (on-owner owner owner (second / 32 - first / 32) refl))
+
+  more-step : (o i : ℕ) → o < 32 → i < 32
+      → getD after (320 + 32 * o + i) 0 + moreOf o (getD service (row + i) 0) first last
+      ≡ getD before (320 + 32 * o + i) 0 + moreOf o (getD service (row + i) 0) first second
+  more-step o i lo li =
+      let c = getD service (row + i) 0 in
+      let before-part = min c (last / 32) - min c (first / 32) in
+      let after-part = min c (second / 32) - min c (first / 32) in
+      let stays = stored-else mid room j owner new-loss second client facility (320 + 32 * o + i) (λ q. omega arith) (λ q. omega arith) in
+      cases (eqb owner o)
+      (λ e. let same : owner ≡ o = eqb-true owner o e in
+      ap₂ _+_ stays (on-owner owner o before-part same)
+      ∙ more-goes-on (getD before (320 + 32 * o + i) 0) (getD mid (320 + 32 * o + i) 0) c (first / 32) (last / 32) (second / 32)
+      (divided first last ordered) (divided first second above-first)
+      (subst (λ (o : ℕ). getD mid (320 + 32 * o + i) 0 + (c - second / 32) ≡ getD before (320 + 32 * o + i) 0 + (c - last / 32)) same (shifted .inside i li))
+      ∙ ap (λ (x : ℕ). getD before (320 + 32 * o + i) 0 + x) (sym (on-owner owner o after-part same)))
+      (λ e. let ne : ¬ (owner ≡ o) = eqb-false owner o e in
+      ap₂ _+_ (stays ∙ other-row o i lo li ne) (on-other owner o before-part ne ∙ sym (on-other owner o after-part ne)))
+    where
+      past : (o i p : ℕ) → p ≤ o → ¬ (o ≡ p) → 320 + 32 * p + 32 ≤ 320 + 32 * o + i
+      past o i p g ne = omega arith
+
+      other-row : (o i : ℕ) → o < 32 → i < 32 → ¬ (owner ≡ o) → getD mid (320 + 32 * o + i) 0 ≡ getD before (320 + 32 * o + i) 0
+      other-row o i lo li ne =
+          cases (ltb o owner)
+          (λ e. let l = ltb-true o owner e in shifted .below (320 + 32 * o + i) (omega arith) (omega arith))
+          (λ e. let g = ltb-false o owner e in shifted .above (320 + 32 * o + i) (past o i (first % 32) g (λ q. ne (sym q))))
+
+module _ {m n : ℕ} {service before : List ℕ} (sums : Kept m n service before) (j : ℕ) (client : j < n) where
+  early : j < 128
+  early = lt-of-lt-of-le client (sums .rows .few-clients)
 
   -- the second nearest
-  module _ (second : ℕ) (ordered : getD firsts j 0 ≤ second) where
-    second-now : getD (set seconds j second) j 0 ≡ second
-    second-now = getD-set-same seconds j second 0 (omega (arith, kept .second-room))
+  module _ (second : ℕ) (ordered : firstAt before j ≤ second) (within : second ≤ 32000031) (mid : List ℕ)
+      (shifted : Shifted 32 service (j * m) (secondAt before j / 32) (second / 32) before (320 + 32 * (firstAt before j % 32)) mid)
+      (same-length : length mid ≡ length before) where
+    mid-room : 1344 ≤ length mid
+    mid-room = rw same-length (sums .room)
 
-    more-after : (p i : ℕ)
-        → moreSum m n service firsts (set seconds j second) p i + moreOf p (entry m service j i) (getD firsts j 0) (getD seconds j 0)
-        ≡ moreSum m n service firsts seconds p i + moreOf p (entry m service j i) (getD firsts j 0) second
-    more-after p i =
-        rw second-now
-        at (more-change m n service firsts seconds firsts (set seconds j second) j client (λ k ne. refl) (agree-set j seconds second) p i)
+    loss-held : getD mid (288 + firstAt before j % 32) 0 ≡ getD before (288 + firstAt before j % 32) 0
+    loss-held = shifted .below (288 + firstAt before j % 32) (omega arith)
 
-    loss-after : (p : ℕ) → lossSum n firsts (set seconds j second) p + lossOf p (getD firsts j 0) (getD seconds j 0)
-        ≡ lossSum n firsts seconds p + lossOf p (getD firsts j 0) second
-    loss-after p =
-        rw second-now
-        at (loss-change m n service firsts seconds firsts (set seconds j second) j client (λ k ne. refl) (agree-set j seconds second) p)
+    pub second-loss-fits : getD mid (288 + firstAt before j % 32) 0 + second / 32 < 4294967296
+    second-loss-fits = omega (arith, loss-held, loss-small sums (firstAt before j % 32) (omega arith))
 
-    second-more : (more' : List ℕ) → Shifted 32 service (j * m) (getD seconds j 0 / 32) (second / 32) more (32 * owner) more'
-        → (p i : ℕ) → p < 32 → i < 32 → getD more' (32 * p + i) 0 ≡ moreSum m n service firsts (set seconds j second) p i
-    second-more more' shifted p i lp li =
-        let c = entry m service j i in
-        let first = getD firsts j 0 in
-        let last = getD seconds j 0 in
-        let before = min c (last / 32) - min c (first / 32) in
-        let after = min c (second / 32) - min c (first / 32) in
-        cases (eqb p owner)
-        (λ e. let same : p ≡ owner = eqb-true p owner e in
-        omega (
-          arith,
-          kept .more-is p i lp li,
-          more-after p i,
-          on-owner owner p before (sym same),
-          on-owner owner p after (sym same),
-          ap (λ p. getD more (32 * p + i) 0) same,
-          ap (λ p. getD more' (32 * p + i) 0) same,
-          shifted .inside i li,
-          more-fills c (first / 32) (last / 32) (omega (arith, kept .ordered j client)),
-          more-fills c (first / 32) (second / 32) (omega arith),
-        ))
-        (λ e. let ne : ¬ (p ≡ owner) = eqb-false p owner e in
-        omega (
-          arith,
-          kept .more-is p i lp li,
-          more-after p i,
-          on-other owner p before (λ q. ne (sym q)),
-          on-other owner p after (λ q. ne (sym q)),
-          other-rows service more more' (j * m) (last / 32) (second / 32) owner p i shifted ne li,
-        ))
+    pub second-loss-enough : secondAt before j / 32 ≤ getD mid (288 + firstAt before j % 32) 0 + second / 32
+    second-loss-enough = omega (arith, loss-held, loss-enough sums j client)
 
-    second-loss : (p : ℕ) → p < 32
-        → getD (set loss owner (getD loss owner 0 + second / 32 - getD seconds j 0 / 32)) p 0 ≡ lossSum n firsts (set seconds j second) p
-    second-loss p lp =
-        let first = getD firsts j 0 in
-        let last = getD seconds j 0 in
-        let x = getD loss owner 0 + second / 32 - last / 32 in
-        cases (eqb p owner)
-        (λ e. let same : p ≡ owner = eqb-true p owner e in
-        omega (
-          arith,
-          kept .loss-is p lp,
-          loss-after p,
-          on-owner owner p (last / 32 - first / 32) (sym same),
-          on-owner owner p (second / 32 - first / 32) (sym same),
-          ap (λ p. getD loss p 0) same,
-          ap (λ p. getD (set loss owner x) p 0) same,
-          getD-set-same loss owner x 0 (omega (arith, kept .loss-room)),
-          loss-enough kept j client,
-          kept .ordered j client,
-        ))
-        (λ e. let ne : ¬ (p ≡ owner) = eqb-false p owner e in
-        omega (
-          arith,
-          kept .loss-is p lp,
-          loss-after p,
-          on-other owner p (last / 32 - first / 32) (λ q. ne (sym q)),
-          on-other owner p (second / 32 - first / 32) (λ q. ne (sym q)),
-          getD-set-other loss owner p x 0 ne,
-        ))
+    abbrev second-table : List ℕ
+    second-table =
+        set (set mid (288 + firstAt before j % 32) (getD mid (288 + firstAt before j % 32) 0 + second / 32 - secondAt before j / 32)) (128 + j) second
 
-    pub kept-second : second ≤ 32000031 → (more' : List ℕ)
-        → Shifted 32 service (j * m) (getD seconds j 0 / 32) (second / 32) more (32 * owner) more' → length more' ≡ length more
-        → Kept m n service firsts (set seconds j second) added more'
-        (set loss owner (getD loss owner 0 + second / 32 - getD seconds j 0 / 32))
-    kept-second within more' shifted same-length =
-        let room : j < length seconds = omega (arith, kept .second-room) in
-        record {
-          rows = kept .rows;
-          first-room = kept .first-room;
-          second-room = rw length-set (kept .second-room);
-          added-room = kept .added-room;
-          more-room = rw same-length (kept .more-room);
-          loss-room = rw length-set (kept .loss-room);
-          ordered = placed (λ k x. getD firsts k 0 ≤ x) n j second seconds room ordered (λ k l ne. kept .ordered k l);
-          within = placed (λ k x. x ≤ 32000031) n j second seconds room within (λ k l ne. kept .within k l);
-          added-is = kept .added-is;
-          more-is = second-more more' shifted;
-          loss-is = second-loss;
-        }
+    pub second-put : PutAt j (firstAt before j) second before second-table
+    second-put =
+        stored-put mid mid-room j (firstAt before j % 32) _ second early (omega arith) before (firstAt before j)
+        (shifted .below j (omega (arith, early))) (λ k l ne. shifted .below k (omega arith))
 
-  -- both, where they are one and the same
-  module _ (x : ℕ) (one : getD seconds j 0 ≡ getD firsts j 0) where
-    first-is : getD (set firsts j x) j 0 ≡ x
-    first-is = getD-set-same firsts j x 0 (omega (arith, kept .first-room))
+    pub second-kept : Kept m n service second-table
+    second-kept =
+        kept-change sums j client (firstAt before j) second _ second-put ordered within
+        (stored-room mid mid-room j (firstAt before j % 32) _ second early (omega arith))
+        (λ i l. ap (λ (x : ℕ). x + min (entry m service j i) (firstAt before j / 32))
+        (stored-else mid mid-room j (firstAt before j % 32) _ second early (omega arith) (256 + i) (λ q. omega (arith, early)) (λ q. omega arith)
+        ∙ shifted .below (256 + i) (omega arith)))
+        (loss-step (j * m) j (firstAt before j) (secondAt before j) second early (sums .ordered j client) ordered mid-room row (loss-enough sums j client))
+        (more-step (j * m) j (firstAt before j) (secondAt before j) second early (sums .ordered j client) ordered mid-room row (loss-enough sums j client))
+      where
+        row : RowShifted service (j * m) (firstAt before j % 32) (secondAt before j / 32) (second / 32) before mid
+        row = record { inside = shifted .inside; below = λ k l h. shifted .below k h; above = shifted .above }
 
-    second-is : getD (set seconds j x) j 0 ≡ x
-    second-is = getD-set-same seconds j x 0 (omega (arith, kept .second-room))
-
-    added-after : (i : ℕ) → addedSum m n service (set firsts j x) i + min (entry m service j i) (getD firsts j 0 / 32)
-        ≡ addedSum m n service firsts i + min (entry m service j i) (x / 32)
-    added-after i =
-        rw first-is at (added-change m n service firsts seconds (set firsts j x) seconds j client (agree-set j firsts x) (λ k ne. refl) i)
-
-    both-added : (added' : List ℕ) → Shifted 32 service (j * m) (getD firsts j 0 / 32) (x / 32) added 0 added'
-        → (i : ℕ) → i < 32 → getD added' i 0 ≡ addedSum m n service (set firsts j x) i
-    both-added added' shifted i l =
-        let c = entry m service j i in
-        let first = getD firsts j 0 in
-        let moved : getD added' i 0 + (c - x / 32) ≡ getD added i 0 + (c - first / 32) = rw zero-add at (shifted .inside i l) in
-        omega (arith, kept .added-is i l, added-after i, moved, least-fills c (first / 32), least-fills c (x / 32))
-
-    both-more : (o i : ℕ) → moreSum m n service firsts seconds o i ≡ moreSum m n service (set firsts j x) (set seconds j x) o i
-    both-more o i =
-        let c = entry m service j i in
-        let same-firsts = agree-set j firsts x in
-        let same-seconds = agree-set j seconds x in
-        let change = more-change m n service firsts seconds (set firsts j x) (set seconds j x) j client same-firsts same-seconds o i in
-        omega (arith, rw (first-is, second-is, one) at change, one-more o c (getD firsts j 0), one-more o c x)
-
-    both-loss : (o : ℕ) → lossSum n firsts seconds o ≡ lossSum n (set firsts j x) (set seconds j x) o
-    both-loss o =
-        let same-firsts = agree-set j firsts x in
-        let same-seconds = agree-set j seconds x in
-        let change = loss-change m n service firsts seconds (set firsts j x) (set seconds j x) j client same-firsts same-seconds o in
-        omega (arith, rw (first-is, second-is, one) at change, one-loss o (getD firsts j 0), one-loss o x)
-
-    kept-both : x ≤ 32000031 → (added' : List ℕ) → Shifted 32 service (j * m) (getD firsts j 0 / 32) (x / 32) added 0 added'
-        → length added' ≡ length added → Kept m n service (set firsts j x) (set seconds j x) added' more loss
-    kept-both within added' shifted same-length =
-        let room : j < length seconds = omega (arith, kept .second-room) in
-        record {
-          rows = kept .rows;
-          first-room = rw length-set (kept .first-room);
-          second-room = rw length-set (kept .second-room);
-          added-room = rw same-length (kept .added-room);
-          more-room = kept .more-room;
-          loss-room = kept .loss-room;
-          ordered =
-              placed (λ k y. getD (set firsts j x) k 0 ≤ y) n j x seconds room (omega (arith, first-is))
-              (λ k l ne. omega (arith, getD-set-other firsts j k x 0 ne, kept .ordered k l));
-          within = placed (λ k y. y ≤ 32000031) n j x seconds room within (λ k l ne. kept .within k l);
-          added-is = both-added added' shifted;
-          more-is = λ o i lo li. kept .more-is o i lo li ∙ both-more o i;
-          loss-is = λ o lo. kept .loss-is o lo ∙ both-loss o;
-        }
-
-module _ {m n : ℕ} {service firsts seconds added more loss : List ℕ} (kept : Kept m n service firsts seconds added more loss)
-    (j : ℕ) (client : j < n) where
   -- both, where they were one and the same
-  pub kept-enter : (first second : ℕ) → first ≤ second → second ≤ 32000031 → getD seconds j 0 ≡ getD firsts j 0 → (added' more' : List ℕ)
-      → Shifted 32 service (j * m) (getD firsts j 0 / 32) (first / 32) added 0 added' → length added' ≡ length added
-      → Shifted 32 service (j * m) (first / 32) (second / 32) more (32 * (first % 32)) more' → length more' ≡ length more
-      → Kept m n service (set firsts j first) (set seconds j second) added' more'
-      (set loss (first % 32) (getD loss (first % 32) 0 + second / 32 - first / 32))
-  kept-enter first second ordered within one added' more' by-first added-length by-second more-length =
-      let both = kept-both kept j client first one (omega arith) added' by-first added-length in
-      let at-first = getD-set-same firsts j first 0 (omega (arith, kept .first-room)) in
-      let at-second = getD-set-same seconds j first 0 (omega (arith, kept .second-room)) in
-      rw (at-first, at-second, set-set)
-      at (kept-second both j client second (rw at-first ordered) within more'
-      (rw (at-first, at-second) by-second) more-length)
+  module _ (first second : ℕ) (ordered : first ≤ second) (within : second ≤ 32000031) (one : secondAt before j ≡ firstAt before j) (mid : List ℕ)
+      (shifted : ShiftedBoth 32 service (j * m) (firstAt before j / 32) (first / 32) (second / 32) before (320 + 32 * (first % 32)) mid)
+      (same-length : length mid ≡ length before) where
+    abbrev with-first : List ℕ
+    with-first = set mid j first
 
--- ---- one place of a table, from one number to the next
+    abbrev enter-table : List ℕ
+    enter-table = set (set with-first (288 + first % 32) (getD with-first (288 + first % 32) 0 + second / 32 - first / 32)) (128 + j) second
 
-pub stored : (before after : List ℕ) (j x : ℕ) → after ≡ set before j x → j < length before → getD after j 0 ≡ x
-stored before after j x e room = ap (λ (l : List ℕ). getD l j 0) e ∙ getD-set-same before j x 0 room
+    first-room : 1344 ≤ length with-first
+    first-room = rw (length-set, same-length) (sums .room)
 
-pub stored-same : (l : List ℕ) (j x : ℕ) → getD l j 0 ≡ x → l ≡ set l j x
-stored-same l j x e = sym (set-getD l j 0) ∙ ap (set l j) e
+    first-else : (k : ℕ) → ¬ (k ≡ j) → getD with-first k 0 ≡ getD mid k 0
+    first-else k ne = getD-set-other mid j k first 0 ne
 
-pub stored-twice : (before between after : List ℕ) (j x y : ℕ) → between ≡ set before j x → after ≡ set between j y → after ≡ set before j y
-stored-twice before between after j x y e h = h ∙ ap (λ (l : List ℕ). set l j y) e ∙ set-set before j x y
+    pub enter-loss-fits : getD with-first (288 + first % 32) 0 + second / 32 < 4294967296
+    enter-loss-fits =
+        omega (
+          arith,
+          first-else (288 + first % 32) (λ q. omega (arith, early)),
+          shifted .between (288 + first % 32) (omega arith) (omega arith),
+          loss-small sums (first % 32) (omega arith),
+        )
+
+    pub enter-put : PutAt j first second before enter-table
+    enter-put =
+        stored-put with-first first-room j (first % 32) _ second early (omega arith) before first
+        (getD-set-same mid j first 0 (omega (arith, early, sums .room, same-length)))
+        (λ k l ne. first-else k ne ∙ shifted .below k l)
+
+    pub enter-kept : Kept m n service enter-table
+    enter-kept =
+        kept-change sums j client first second _ enter-put ordered within
+        (stored-room with-first first-room j (first % 32) _ second early (omega arith))
+        added
+        (λ o l. ap (λ (x : ℕ). getD enter-table (288 + o) 0 + x) (no-loss o) ∙ loss-step (j * m) j first first second early (le-refl first) ordered first-room row (omega arith) o l)
+        (λ o i lo li. ap (λ (x : ℕ). getD enter-table (320 + 32 * o + i) 0 + x) (no-more o i)
+        ∙ more-step (j * m) j first first second early (le-refl first) ordered first-room row (omega arith) o i lo li)
+      where
+        row : RowShifted service (j * m) (first % 32) (first / 32) (second / 32) before with-first
+        row =
+            record {
+              inside = λ i l. ap (λ (x : ℕ). x + (getD service (j * m + i) 0 - second / 32)) (first-else (320 + 32 * (first % 32) + i) (λ q. omega (arith, early))) ∙ shifted .more i l;
+              below = λ k l h. first-else k (λ q. omega (arith, early)) ∙ shifted .between k l h;
+              above = λ k l. first-else k (λ q. omega (arith, early)) ∙ shifted .above k l;
+            }
+
+        no-loss : (o : ℕ) → lossOf o (firstAt before j) (secondAt before j) ≡ lossOf o first first
+        no-loss o = ap (lossOf o (firstAt before j)) one ∙ one-loss o (firstAt before j) ∙ sym (one-loss o first)
+
+        no-more : (o i : ℕ) → moreOf o (entry m service j i) (firstAt before j) (secondAt before j) ≡ moreOf o (entry m service j i) first first
+        no-more o i =
+            ap (moreOf o (entry m service j i) (firstAt before j)) one ∙ one-more o (entry m service j i) (firstAt before j)
+            ∙ sym (one-more o (entry m service j i) first)
+
+        added-moves : (x y c p q : ℕ) → y + (c - q) ≡ x + (c - p) → y + min c p ≡ x + min c q
+        added-moves x y c p q moved = omega (arith, least-fills c p, least-fills c q)
+
+        added : (i : ℕ) → i < 32 → getD enter-table (256 + i) 0 + min (entry m service j i) (firstAt before j / 32)
+            ≡ getD before (256 + i) 0 + min (entry m service j i) (first / 32)
+        added i l =
+            ap (λ (x : ℕ). x + min (entry m service j i) (firstAt before j / 32))
+            (stored-else with-first first-room j (first % 32) _ second early (omega arith) (256 + i) (λ q. omega (arith, early)) (λ q. omega arith)
+            ∙ first-else (256 + i) (λ q. omega (arith, early)))
+            ∙ added-moves (getD before (256 + i) 0) (getD mid (256 + i) 0) (entry m service j i) (firstAt before j / 32) (first / 32) (shifted .added i l)
+
+-- ---- puts
+
+pub put-as : {j first first′ second : ℕ} {before after : List ℕ} → first ≡ first′ → PutAt j first second before after
+    → PutAt j first′ second before after
+put-as e put = record { first-is = put .first-is ∙ e; second-is = put .second-is; others = put .others }
+
+-- one after another
+pub put-again : {j first second first′ second′ : ℕ} {before between after : List ℕ} → PutAt j first second before between
+    → PutAt j first′ second′ between after → PutAt j first′ second′ before after
+put-again one two =
+    record {
+      first-is = two .first-is;
+      second-is = two .second-is;
+      others =
+          record {
+            firsts = λ k l ne. two .others .firsts k l ne ∙ one .others .firsts k l ne;
+            seconds = λ k l ne. two .others .seconds k l ne ∙ one .others .seconds k l ne;
+          };
+    }
 
 -- ---- at the start
 
 -- every client's two are the highest cost, and so the added facility is every client's nearest
-pub kept-start : (m n : ℕ) (service firsts seconds added more loss : List ℕ) → Rows m n service
-    → n ≤ length firsts → n ≤ length seconds → 32 ≤ length added → 1024 ≤ length more → 32 ≤ length loss
-    → ((j : ℕ) → j < n → getD firsts j 0 ≡ 32000031) → ((j : ℕ) → j < n → getD seconds j 0 ≡ 32000031)
-    → ColumnSums m n service added → Zeros 1024 more → Zeros 32 loss → Kept m n service firsts seconds added more loss
+pub kept-start : (m n : ℕ) (service kept : List ℕ) → Rows m n service → 1344 ≤ length kept
+    → ((k : ℕ) → k < 256 → getD kept k 0 ≡ 32000031) → ColumnSums m n service kept
+    → ((k : ℕ) → 288 ≤ k → k < 1344 → getD kept k 0 ≡ 0) → Kept m n service kept
 unfolding addedSum moreSum lossSum
-kept-start m n service firsts seconds added more loss rows first-room second-room added-room more-room loss-room firsts-are seconds-are sums zeros none =
+kept-start m n service kept rows room high sums zeros =
+    let firsts : (j : ℕ) → j < n → firstAt kept j ≡ 32000031 = λ j l. high j (omega (arith, rows .few-clients)) in
+    let seconds : (j : ℕ) → j < n → secondAt kept j ≡ 32000031 = λ j l. high (128 + j) (omega (arith, rows .few-clients)) in
     record {
       rows = rows;
-      first-room = first-room;
-      second-room = second-room;
-      added-room = added-room;
-      more-room = more-room;
-      loss-room = loss-room;
-      ordered = λ j l. omega (arith, firsts-are j l, seconds-are j l);
-      within = λ j l. omega (arith, seconds-are j l);
-      added-is = λ i l. sums i l ∙ sum-cong n (λ j l. omega (arith, firsts-are j l, rows .within (j * m + i)));
-      more-is =
-          λ o i lo li. zeros (32 * o + i) (omega arith)
-          ∙ sym (sum-cong n (λ j l. rw (firsts-are j l, seconds-are j l) (one-more o (entry m service j i) 32000031)) ∙ sum-zero n);
+      room = room;
+      ordered = λ j l. omega (arith, firsts j l, seconds j l);
+      within = λ j l. omega (arith, seconds j l);
+      added-is = λ i l. sums i l ∙ sum-cong n (λ j l. omega (arith, firsts j l, rows .within (j * m + i)));
       loss-is =
-          λ o lo. none o lo ∙ sym (sum-cong n (λ j l. rw (firsts-are j l, seconds-are j l) (one-loss o 32000031)) ∙ sum-zero n);
+          λ o lo. zeros (288 + o) (omega arith) (omega arith)
+          ∙ sym (sum-cong n (λ j l. ap₂ (lossOf o) (firsts j l) (seconds j l) ∙ one-loss o 32000031) ∙ sum-zero n);
+      more-is =
+          λ o i lo li. zeros (320 + 32 * o + i) (omega arith) (omega arith)
+          ∙ sym (sum-cong n (λ j l. ap₂ (moreOf o (entry m service j i)) (firsts j l) (seconds j l) ∙ one-more o (entry m service j i) 32000031) ∙ sum-zero n);
     }

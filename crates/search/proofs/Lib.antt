@@ -1,5 +1,6 @@
 -- TableLaws: the search's tables. MoveLaws: the best of the moves. DescentLaws: the search loop, and the open start.
 -- PlanningLaws: the cases of the two plans. PromiseLaws: "no move left" and demand 3. MarkedCases: document 01's marked cases.
+-- SearchingLaws: the cases of the two searches alone.
 pub mod TableLaws
 pub mod ShiftingLaws
 pub mod KeptLaws
@@ -12,3 +13,4 @@ pub mod DescentLaws
 pub mod PlanningLaws
 pub mod PromiseLaws
 pub mod MarkedCases
+pub mod SearchingLaws

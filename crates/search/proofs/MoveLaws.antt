@@ -165,8 +165,8 @@ none-lower more at costs bound i none l =
     ltb-false (getD more (at + i) 0 + getD costs i 0) bound
     (fails (λ e. let some = count-some 32 i (lowerAt more at costs bound) l e in omega arith))
 
-module _ (m n : ℕ) (opening service : List ℕ) (set : ℕ) (costs more loss : List ℕ)
-    (given : MovePrices m n opening service set costs more loss) where
+module _ (m n : ℕ) (opening service : List ℕ) (set : ℕ) (costs kept : List ℕ)
+    (given : MovePrices m n opening service set costs kept) where
   abbrev cost : ℕ → ℕ
   cost = tableCost m n opening service
 
@@ -174,22 +174,22 @@ module _ (m n : ℕ) (opening service : List ℕ) (set : ℕ) (costs more loss :
   small b right = omega (arith, given .cost-small, cost-of cost b set right)
 
   -- a row of swaps has 32 places, of prices with 32 bits
-  pub row : (o : ℕ) → o < m → Row more (32 * o) costs
+  pub row : (o : ℕ) → o < m → Row kept (320 + 32 * o) costs
   row o below =
       record {
-        more-room = omega (arith, given .few-facilities, given .more-room);
+        more-room = omega (arith, given .few-facilities, given .kept-room);
         costs-room = given .costs-room;
-        fits = λ i l. omega (arith, given .more-small (32 * o + i) (omega (arith, given .few-facilities)), given .costs-small i l);
+        fits = λ i l. omega (arith, given .kept-small (320 + 32 * o + i) (omega arith) (omega (arith, given .few-facilities)), given .costs-small i l);
       }
 
   -- where no price of the row is below the bound, no swap of the row is cheaper
   pub row-keeps : (o bound : ℕ) (b : Priced) → b ≡ priced cost (b .set) → o < m → member set o ≡ true
-      → bound ≡ b .cost + getD opening o 0 → count 32 (lowerAt more (32 * o) costs bound) ≡ 0
+      → bound ≡ b .cost + getD opening o 0 → count 32 (lowerAt kept (320 + 32 * o) costs bound) ≡ 0
       → b ≡ priced cost (best cost (b .set) (swapsOut m set o))
   row-keeps o bound b right below open-o bound-is none =
       swaps-keep cost m set o b right open-o (λ i l shut. omega (
         arith,
-        none-lower more (32 * o) costs bound i none (omega (arith, given .few-facilities)),
+        none-lower kept (320 + 32 * o) costs bound i none (omega (arith, given .few-facilities)),
         given .swap o i below open-o l shut,
         cost-of cost b (b .set) right,
       ))

@@ -20,11 +20,11 @@ use Rattle.model.proofs.LeastLaws.{any-counted}
 use Rattle.model.proofs.CostLaws.{opening-plus, opening-minus, opening-trade}
 use Rattle.model.proofs.NearestChangeLaws.{nearestTwo, nearest-first, nearest-with, nearest-without, nearest-trade}
 use Rattle.search.specs.Tables.{tabled, tableCost}
-use Rattle.search.specs.Prices.{entry, nearTwo, addedSum, moreSum, lossSum, Kept, MovePrices}
-use Rattle.search.specs.Adding.{Adding}
+use Rattle.search.specs.Prices.{entry, nearTwo, firstAt, secondAt, addedSum, moreSum, lossSum, MovePrices}
+use Rattle.search.specs.Adding.{Adding, Added}
 use Rattle.search.specs.Standing.{Fees, Standing, Costs}
 use Rattle.search.proofs.TableLaws.{service-sum}
-use Rattle.search.proofs.KeptLaws.{kept-added-small, kept-more-small, kept-loss-small}
+use Rattle.search.proofs.KeptLaws.{kept-small}
 
 -- ---- one client
 
@@ -37,8 +37,8 @@ traded-more : (out : Bool) (c d e : ℕ) → d ≤ e → min c (cond out e d) �
 traded-more true c d e h = omega arith
 traded-more false c d e h = omega arith
 
-module _ (m n : ℕ) (opening service : List ℕ) (set : ℕ) (firsts seconds added more loss : List ℕ)
-    (here : Standing m n service set firsts seconds added more loss) where
+module _ (m n : ℕ) (opening service : List ℕ) (set : ℕ) (kept : List ℕ)
+    (here : Standing m n service set kept) where
   abbrev I : Instance
   I = tabled m n opening service
 
@@ -47,11 +47,11 @@ module _ (m n : ℕ) (opening service : List ℕ) (set : ℕ) (firsts seconds ad
 
   few : I .facilities ≤ 32
   unfolding tabled
-  few = here .kept .rows .few-facilities
+  few = here .sums .rows .few-facilities
 
   bound : (j i : ℕ) → i < I .facilities → I .service i j ≤ 1000000
   unfolding tabled
-  bound j i l = here .kept .rows .within (j * m + i)
+  bound j i l = here .sums .rows .within (j * m + i)
 
   some : any (I .facilities) S ≡ true
   unfolding tabled
@@ -61,23 +61,23 @@ module _ (m n : ℕ) (opening service : List ℕ) (set : ℕ) (firsts seconds ad
   unfolding tabled nearTwo
   two-is j = refl
 
-  first-is : (j : ℕ) → j < n → getD firsts j 0 ≡ nearestTwo I 1000000 j S .first
+  first-is : (j : ℕ) → j < n → firstAt kept j ≡ nearestTwo I 1000000 j S .first
   first-is j l = here .near j l .first ∙ sym (ap (λ (t : Two). t .first) (two-is j))
 
-  second-is : (j : ℕ) → j < n → getD seconds j 0 ≡ nearestTwo I 1000000 j S .second
+  second-is : (j : ℕ) → j < n → secondAt kept j ≡ nearestTwo I 1000000 j S .second
   second-is j l = here .near j l .second ∙ sym (ap (λ (t : Two). t .second) (two-is j))
 
-  ordered : (j : ℕ) → j < n → getD firsts j 0 / 32 ≤ getD seconds j 0 / 32
-  ordered j l = let h = here .kept .ordered j l in omega arith
+  ordered : (j : ℕ) → j < n → firstAt kept j / 32 ≤ secondAt kept j / 32
+  ordered j l = let h = here .sums .ordered j l in omega arith
 
   -- ---- service costs: of the set, with a facility more, with one less, with one for another
 
   all-clients : (T : ℕ → Bool) (f : ℕ → ℕ) → ((j : ℕ) → j < n → nearest I T j ≡ f j) → serviceCost I T ≡ sum n f
   all-clients T f h = sym (service-sum m n opening service T) ∙ sum-cong n h
 
-  served-now : serviceCost I S ≡ sum n (λ j. getD firsts j 0 / 32)
+  served-now : serviceCost I S ≡ sum n (λ j. firstAt kept j / 32)
   served-now =
-      all-clients S (λ j. getD firsts j 0 / 32)
+      all-clients S (λ j. firstAt kept j / 32)
       (λ j l. nearest-first I 1000000 j few (bound j) S some ∙ ap (λ (x : ℕ). x / 32) (sym (first-is j l)))
 
   module _ (i : ℕ) (facility : i < m) (shut : S i ≡ false) where
@@ -89,10 +89,10 @@ module _ (m n : ℕ) (opening service : List ℕ) (set : ℕ) (firsts seconds ad
     unfolding tabled
     cost-of-i j = refl
 
-    served-with : serviceCost I (plus S i) ≡ addedSum m n service firsts i
+    served-with : serviceCost I (plus S i) ≡ addedSum m n service kept i
     unfolding addedSum
     served-with =
-        all-clients (plus S i) (λ j. min (entry m service j i) (getD firsts j 0 / 32))
+        all-clients (plus S i) (λ j. min (entry m service j i) (firstAt kept j / 32))
         (λ j l. nearest-with I 1000000 j few (bound j) S i below-i shut ∙ rw (cost-of-i j, first-is j l))
 
   module _ (o : ℕ) (facility : o < m) (is-open : S o ≡ true) where
@@ -101,25 +101,25 @@ module _ (m n : ℕ) (opening service : List ℕ) (set : ℕ) (firsts seconds ad
     below-o = facility
 
     abbrev gone : ℕ → Bool
-    gone j = eqb (getD firsts j 0 % 32) o
+    gone j = eqb (firstAt kept j % 32) o
 
     -- what serving client j costs from its second nearest where o is the nearest, else from the nearest
     left-at : (j : ℕ) → j < n
         → cond (eqb (nearestTwo I 1000000 j S .first % 32) o) (nearestTwo I 1000000 j S .second / 32) (nearestTwo I 1000000 j S .first / 32)
-        ≡ cond (gone j) (getD seconds j 0 / 32) (getD firsts j 0 / 32)
+        ≡ cond (gone j) (secondAt kept j / 32) (firstAt kept j / 32)
     left-at j l = rw (← first-is j l, ← second-is j l)
 
-    served-without : any m (minus S o) ≡ true → serviceCost I (minus S o) ≡ serviceCost I S + lossSum n firsts seconds o
+    served-without : any m (minus S o) ≡ true → serviceCost I (minus S o) ≡ serviceCost I S + lossSum n kept o
     unfolding lossSum tabled
     served-without left =
-        all-clients (minus S o) (λ j. getD firsts j 0 / 32 + on (gone j) (getD seconds j 0 / 32 - getD firsts j 0 / 32))
+        all-clients (minus S o) (λ j. firstAt kept j / 32 + on (gone j) (secondAt kept j / 32 - firstAt kept j / 32))
         (λ j l. nearest-without I 1000000 j few (bound j) S o below-o is-open left
-        ∙ (left-at j l ∙ served-more (gone j) (getD firsts j 0 / 32) (getD seconds j 0 / 32) (ordered j l)))
-        ∙ (sum-add n (λ j. getD firsts j 0 / 32) (λ j. on (gone j) (getD seconds j 0 / 32 - getD firsts j 0 / 32))
-        ∙ ap (λ (x : ℕ). x + sum n (λ j. on (gone j) (getD seconds j 0 / 32 - getD firsts j 0 / 32))) (sym served-now))
+        ∙ (left-at j l ∙ served-more (gone j) (firstAt kept j / 32) (secondAt kept j / 32) (ordered j l)))
+        ∙ (sum-add n (λ j. firstAt kept j / 32) (λ j. on (gone j) (secondAt kept j / 32 - firstAt kept j / 32))
+        ∙ ap (λ (x : ℕ). x + sum n (λ j. on (gone j) (secondAt kept j / 32 - firstAt kept j / 32))) (sym served-now))
 
     served-trade : (i : ℕ) → i < m → S i ≡ false
-        → serviceCost I (trade S o i) ≡ addedSum m n service firsts i + moreSum m n service firsts seconds o i
+        → serviceCost I (trade S o i) ≡ addedSum m n service kept i + moreSum m n service kept o i
     unfolding addedSum moreSum tabled
     served-trade i facility-i shut =
         all-clients (trade S o i) (λ j. min (c j) (d j) + on (gone j) (min (c j) (e j) - min (c j) (d j)))
@@ -131,10 +131,10 @@ module _ (m n : ℕ) (opening service : List ℕ) (set : ℕ) (firsts seconds ad
         c j = entry m service j i
 
         d : ℕ → ℕ
-        d j = getD firsts j 0 / 32
+        d j = firstAt kept j / 32
 
         e : ℕ → ℕ
-        e j = getD seconds j 0 / 32
+        e j = secondAt kept j / 32
 
   -- ---- what moves cost
 
@@ -144,12 +144,12 @@ module _ (m n : ℕ) (opening service : List ℕ) (set : ℕ) (firsts seconds ad
   cost-by x T agree = ap (λ (R : ℕ → Bool). openingCost I R + serviceCost I R) (fun-ext agree)
 
   -- the cost of the set itself
-  pub cost-now : (fees served : ℕ) → fees ≡ openingCost I S → served ≡ sum n (λ j. getD firsts j 0 / 32)
+  pub cost-now : (fees served : ℕ) → fees ≡ openingCost I S → served ≡ sum n (λ j. firstAt kept j / 32)
       → fees + served ≡ tableCost m n opening service set
   cost-now fees served f s = omega (arith, served-now, cost-by set S (λ k. refl))
 
   below-32 : {i : ℕ} → i < m → i < 32
-  below-32 l = omega (arith, here .kept .rows .few-facilities)
+  below-32 l = omega (arith, here .sums .rows .few-facilities)
 
   -- ---- bounds
 
@@ -157,44 +157,44 @@ module _ (m n : ℕ) (opening service : List ℕ) (set : ℕ) (firsts seconds ad
   unfolding openingCost tabled
   opening-few fees =
       let each = sum-bound m 50000000 (λ i. on (S i) (getD opening i 0)) (λ i l. le-trans (on-le (S i) (getD opening i 0)) (fees .small i l)) in
-      omega (arith, here .kept .rows .few-facilities)
+      omega (arith, here .sums .rows .few-facilities)
 
   served-few : serviceCost I S ≤ 128000000
   served-few =
-      let each = sum-bound n 1000000 (λ j. getD firsts j 0 / 32) (λ j l. omega (arith, here .kept .ordered j l, here .kept .within j l)) in
-      omega (arith, here .kept .rows .few-clients, served-now)
+      let each = sum-bound n 1000000 (λ j. firstAt kept j / 32) (λ j l. omega (arith, here .sums .ordered j l, here .sums .within j l)) in
+      omega (arith, here .sums .rows .few-clients, served-now)
 
   -- what is added up place by place
-  pub adding : (k : ℕ) (costs : List ℕ) → Fees m opening → k ≡ openingCost I S → 32 ≤ length costs → Adding k opening added costs
+  pub adding : (k : ℕ) (costs : List ℕ) → Fees m opening → k ≡ openingCost I S → 32 ≤ length costs → Adding k opening kept costs
   adding k costs fees e room =
       record {
         opening-room = fees .room;
-        added-room = here .kept .added-room;
+        kept-room = omega (arith, here .sums .room);
         costs-room = room;
-        small = λ i l. omega (arith, opening-few fees, fees .high i l, kept-added-small (here .kept) i l);
+        small = λ i l. omega (arith, opening-few fees, fees .high i l, kept-small (here .sums) (256 + i) (omega arith) (omega arith));
       }
 
-  module _ (costs : List ℕ) (fees : Fees m opening) (filled : Costs m n opening service set added costs) where
+  module _ (costs : List ℕ) (fees : Fees m opening) (filled : Costs m n opening service set kept costs) where
     add-is : (i : ℕ) → i < m → S i ≡ false → getD costs i 0 ≡ tableCost m n opening service (with set i)
     unfolding tabled
     add-is i l shut =
         omega (
           arith,
           filled i (below-32 l),
-          here .kept .added-is i (below-32 l),
+          here .sums .added-is i (below-32 l),
           cost-by (with set i) (plus S i) (member-with set i),
           opening-plus I S i l shut,
           served-with i l shut,
         )
 
     drop-is : (o : ℕ) → o < m → S o ≡ true → 2 ≤ count m S
-        → tableCost m n opening service set + getD loss o 0 ≡ tableCost m n opening service (without set o) + getD opening o 0
+        → tableCost m n opening service set + getD kept (288 + o) 0 ≡ tableCost m n opening service (without set o) + getD opening o 0
     unfolding tabled
     drop-is o l is-open two =
         let left : any m (minus S o) ≡ true = any-counted m (minus S o) (omega (arith, count-minus m o S l is-open)) in
         omega (
           arith,
-          here .kept .loss-is o (below-32 l),
+          here .sums .loss-is o (below-32 l),
           cost-by set S (λ k. refl),
           cost-by (without set o) (minus S o) (member-without set o),
           opening-minus I S o l is-open,
@@ -202,34 +202,37 @@ module _ (m n : ℕ) (opening service : List ℕ) (set : ℕ) (firsts seconds ad
         )
 
     swap-is : (o i : ℕ) → o < m → S o ≡ true → i < m → S i ≡ false
-        → getD more (32 * o + i) 0 + getD costs i 0 ≡ tableCost m n opening service (with (without set o) i) + getD opening o 0
+        → getD kept (320 + 32 * o + i) 0 + getD costs i 0 ≡ tableCost m n opening service (with (without set o) i) + getD opening o 0
     unfolding tabled
     swap-is o i lo is-open li shut =
         omega (
           arith,
           filled i (below-32 li),
-          here .kept .added-is i (below-32 li),
-          here .kept .more-is o i (below-32 lo) (below-32 li),
+          here .sums .added-is i (below-32 li),
+          here .sums .more-is o i (below-32 lo) (below-32 li),
           cost-by (with (without set o) i) (trade S o i) (member-trade set o i),
           opening-trade I S o i lo is-open li shut,
           served-trade o lo is-open i li shut,
         )
 
-    -- every move is priced
-    pub prices : 32 ≤ length costs → MovePrices m n opening service set costs more loss
-    prices costs-room =
+    by-costs : 32 ≤ length costs → MovePrices m n opening service set costs kept
+    by-costs costs-room =
         record {
-          few-facilities = here .kept .rows .few-facilities;
+          few-facilities = here .sums .rows .few-facilities;
           opening-room = fees .room;
           costs-room = costs-room;
-          more-room = here .kept .more-room;
-          loss-room = here .kept .loss-room;
+          kept-room = here .sums .room;
           opening-small = fees .small;
-          costs-small = λ i l. omega (arith, filled i l, opening-few fees, fees .high i l, kept-added-small (here .kept) i l);
-          more-small = kept-more-small (here .kept);
-          loss-small = kept-loss-small (here .kept);
+          costs-small = λ i l. omega (arith, filled i l, opening-few fees, fees .high i l, kept-small (here .sums) (256 + i) (omega arith) (omega arith));
+          kept-small = kept-small (here .sums);
           cost-small = omega (arith, cost-by set S (λ k. refl), opening-few fees, served-few);
           add = add-is;
           drop = drop-is;
           swap = swap-is;
         }
+
+  -- every move is priced
+  pub prices : (k : ℕ) (costs : List ℕ) → Fees m opening → k ≡ openingCost I S → Added 32 k opening kept costs → 32 ≤ length costs
+      → MovePrices m n opening service set costs kept
+  prices k costs fees e added =
+      by-costs costs fees (λ i l. added i l ∙ ap (λ (x : ℕ). x + getD opening i 0 + getD kept (256 + i) 0) e)

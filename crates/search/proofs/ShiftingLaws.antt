@@ -4,14 +4,13 @@ use native.Mathlib.Nat.{not-suc-le-zero}
 use native.Mathlib.Omega.{arith}
 use mathlib.Core.Path.{_≡_, refl, sym, ap, _∙_}
 use mathlib.Core.List.{List}
-use lib.ListN.{length, getD, set}
+use lib.ListN.{length, getD, set, length-set}
 use lib.Seq.{getD-set-same, getD-set-other}
 use Rattle.model.proofs.LoopLaws.{up-to}
 use Rattle.model.proofs.SumLaws.{sum-none, sum-more, sum-bound}
 use Rattle.sheet.proofs.ShapeLaws.{row-within}
-use Rattle.search.specs.Tables.{Zeros}
 use Rattle.search.specs.Prices.{Rows, entry}
-use Rattle.search.specs.Shifting.{Shiftable, Shifted, Addable, RowAdded, ColumnSums}
+use Rattle.search.specs.Shifting.{Shiftable, Shifted, ShiftedBoth, Addable, RowAdded, Aside, NoSums, ColumnSums}
 
 -- ---- shifting a row
 
@@ -52,41 +51,128 @@ module _ (service : List ℕ) (row plus minus : ℕ) (before : List ℕ) (at : �
           let same = done .above k (omega arith) ∙ ap (λ k. getD before k 0) e in
           omega (arith, stored, same, answer)
 
+-- ---- shifting two stretches in one pass
+
+module _ (service : List ℕ) (row last first second : ℕ) (before : List ℕ) (at : ℕ) where
+  pub both-none : ShiftedBoth 0 service row last first second before at before
+  both-none =
+      record {
+        added = λ i l. absurd (not-suc-le-zero l);
+        more = λ i l. absurd (not-suc-le-zero l);
+        below = λ k l. refl;
+        between = λ k l h. refl;
+        above = λ k l. refl;
+      }
+
+  module _ (behind : 320 ≤ at) (i : ℕ) (l : i < 32) (kept : List ℕ) (done : ShiftedBoth i service row last first second before at kept) where
+    -- what a turn requires of the one sum
+    pub added-ready : Shiftable service row last first before 256
+        → (getD service (row + i) 0 - first ≤ getD kept (256 + i) 0 + (getD service (row + i) 0 - last))
+        × (getD kept (256 + i) 0 + (getD service (row + i) 0 - last) < 4294967296)
+    added-ready can =
+        let same = done .between (256 + i) (omega arith) (omega arith) in
+        (omega (arith, can .enough i l, same), omega (arith, can .small i l, same))
+
+    module _ (r : ℕ) where
+      -- and of the other one, once the one is stored
+      pub more-ready : Shiftable service row first second before at
+          → (getD service (row + i) 0 - second ≤ getD (set kept (256 + i) r) (at + i) 0 + (getD service (row + i) 0 - first))
+          × (getD (set kept (256 + i) r) (at + i) 0 + (getD service (row + i) 0 - first) < 4294967296)
+      more-ready can =
+          let same = getD-set-other kept (256 + i) (at + i) r 0 (λ q. omega arith) ∙ done .above (at + i) (omega arith) in
+          (omega (arith, can .enough i l, same), omega (arith, can .small i l, same))
+
+      -- a turn, with what its calls answer
+      module _ (t : ℕ) where
+        after : List ℕ
+        after = set (set kept (256 + i) r) (at + i) t
+
+        elsewhere : (k : ℕ) → ¬ (k ≡ 256 + i) → ¬ (k ≡ at + i) → getD after k 0 ≡ getD kept k 0
+        unfolding after
+        elsewhere k ne other = getD-set-other (set kept (256 + i) r) (at + i) k t 0 other ∙ getD-set-other kept (256 + i) k r 0 ne
+
+        pub both-more : at + 32 ≤ length kept
+            → r + (getD service (row + i) 0 - first) ≡ getD kept (256 + i) 0 + (getD service (row + i) 0 - last)
+            → t + (getD service (row + i) 0 - second) ≡ getD (set kept (256 + i) r) (at + i) 0 + (getD service (row + i) 0 - first)
+            → ShiftedBoth (i + 1) service row last first second before at (set (set kept (256 + i) r) (at + i) t)
+        unfolding after
+        both-more room answer other =
+            record {
+              added =
+                  λ a b. up-to
+                  (λ a. getD after (256 + a) 0 + (getD service (row + a) 0 - first) ≡ getD before (256 + a) 0 + (getD service (row + a) 0 - last)) i
+                  (λ a b. ap (λ (x : ℕ). x + (getD service (row + a) 0 - first)) (elsewhere (256 + a) (λ q. omega arith) (λ q. omega arith))
+                  ∙ done .added a b)
+                  (ap (λ (x : ℕ). x + (getD service (row + i) 0 - first)) one
+                  ∙ answer ∙ ap (λ (x : ℕ). x + (getD service (row + i) 0 - last)) (done .between (256 + i) (omega arith) (omega arith)))
+                  a (omega arith);
+              more =
+                  λ a b. up-to
+                  (λ a. getD after (at + a) 0 + (getD service (row + a) 0 - second) ≡ getD before (at + a) 0 + (getD service (row + a) 0 - first)) i
+                  (λ a b. ap (λ (x : ℕ). x + (getD service (row + a) 0 - second)) (elsewhere (at + a) (λ q. omega arith) (λ q. omega arith))
+                  ∙ done .more a b)
+                  (ap (λ (x : ℕ). x + (getD service (row + i) 0 - second)) (getD-set-same (set kept (256 + i) r) (at + i) t 0 (rw length-set (omega arith)))
+                  ∙ other ∙ ap (λ (x : ℕ). x + (getD service (row + i) 0 - first)) two)
+                  a (omega arith);
+              below = λ k b. elsewhere k (λ q. omega arith) (λ q. omega arith) ∙ done .below k b;
+              between = λ k b h. elsewhere k (λ q. omega arith) (λ q. omega arith) ∙ done .between k (omega arith) h;
+              above = λ k b. elsewhere k (λ q. omega arith) (λ q. omega arith) ∙ done .above k (omega arith);
+            }
+          where
+            one : getD after (256 + i) 0 ≡ r
+            one =
+                getD-set-other (set kept (256 + i) r) (at + i) (256 + i) t 0 (λ q. omega arith)
+                ∙ getD-set-same kept (256 + i) r 0 (omega arith)
+
+            two : getD (set kept (256 + i) r) (at + i) 0 ≡ getD before (at + i) 0
+            two = getD-set-other kept (256 + i) (at + i) r 0 (λ q. omega arith) ∙ done .above (at + i) (omega arith)
+
 -- ---- adding a row
 
 module _ (service : List ℕ) (row : ℕ) (before : List ℕ) where
   pub row-added-none : RowAdded 0 service row before before
-  row-added-none = record { inside = λ i l. absurd (not-suc-le-zero l); above = λ k l. refl }
+  row-added-none = record { inside = λ i l. absurd (not-suc-le-zero l); below = λ k l. refl; above = λ k l. refl }
 
-  pub sum-small : (width i : ℕ) (sums : List ℕ) → i < width → Addable width service row before → RowAdded i service row before sums
-      → getD sums i 0 + getD service (row + i) 0 < 4294967296
-  sum-small width i sums l can done = omega (arith, can .small i l, done .above i (omega arith))
+  pub sum-small : (width i : ℕ) (kept : List ℕ) → i < width → Addable width service row before → RowAdded i service row before kept
+      → getD kept (256 + i) 0 + getD service (row + i) 0 < 4294967296
+  sum-small width i kept l can done = omega (arith, can .small i l, done .above (256 + i) (omega arith))
 
-  pub row-added-more : (i : ℕ) (sums : List ℕ) → i < length sums → RowAdded i service row before sums
-      → RowAdded (i + 1) service row before (set sums i (getD sums i 0 + getD service (row + i) 0))
-  row-added-more i sums room done =
-      let r = getD sums i 0 + getD service (row + i) 0 in
+  pub row-added-more : (i : ℕ) (kept : List ℕ) → 256 + i < length kept → RowAdded i service row before kept
+      → RowAdded (i + 1) service row before (set kept (256 + i) (getD kept (256 + i) 0 + getD service (row + i) 0))
+  row-added-more i kept room done =
+      let r = getD kept (256 + i) 0 + getD service (row + i) 0 in
       record {
         inside =
-            λ a l. up-to (λ a. getD (set sums i r) a 0 ≡ getD before a 0 + getD service (row + a) 0) i
-            (λ a l. getD-set-other sums i a r 0 (λ q. omega arith) ∙ done .inside a l)
-            (getD-set-same sums i r 0 room ∙ ap (λ (x : ℕ). x + getD service (row + i) 0) (done .above i (omega arith)))
+            λ a l. up-to (λ a. getD (set kept (256 + i) r) (256 + a) 0 ≡ getD before (256 + a) 0 + getD service (row + a) 0) i
+            (λ a l. getD-set-other kept (256 + i) (256 + a) r 0 (λ q. omega arith) ∙ done .inside a l)
+            (getD-set-same kept (256 + i) r 0 room ∙ ap (λ (x : ℕ). x + getD service (row + i) 0) (done .above (256 + i) (omega arith)))
             a (omega arith);
-        above = λ a l. getD-set-other sums i a r 0 (λ q. omega arith) ∙ done .above a (omega arith);
+        below = λ a l. getD-set-other kept (256 + i) a r 0 (λ q. omega arith) ∙ done .below a l;
+        above = λ a l. getD-set-other kept (256 + i) a r 0 (λ q. omega arith) ∙ done .above a (omega arith);
       }
 
 -- ---- adding all rows
 
-module _ (m : ℕ) (service : List ℕ) where
-  pub columns-none : (sums : List ℕ) → Zeros 32 sums → ColumnSums m 0 service sums
-  columns-none sums zeros i l = zeros i l ∙ sum-none (λ j. entry m service j i)
+pub aside-none : (kept : List ℕ) → Aside kept kept
+aside-none kept = record { below = λ k l. refl; above = λ k l. refl }
 
-  pub columns-ready : (n j : ℕ) (sums : List ℕ) → Rows m n service → j < n → 32 ≤ length sums → ColumnSums m j service sums
-      → Addable 32 service (j * m) sums
-  columns-ready n j sums rows l room held =
+pub aside-more : {service : List ℕ} {row : ℕ} {before kept after : List ℕ} → Aside before kept → RowAdded 32 service row kept after → Aside before after
+aside-more same added =
+    record {
+      below = λ k l. added .below k l ∙ same .below k l;
+      above = λ k l. added .above k l ∙ same .above k l;
+    }
+
+module _ (m : ℕ) (service : List ℕ) where
+  pub columns-none : (kept : List ℕ) → NoSums kept → ColumnSums m 0 service kept
+  columns-none kept zeros i l = zeros i l ∙ sum-none (λ j. entry m service j i)
+
+  pub columns-ready : (n j : ℕ) (kept : List ℕ) → Rows m n service → j < n → 1344 ≤ length kept → ColumnSums m j service kept
+      → Addable 32 service (j * m) kept
+  columns-ready n j kept rows l room held =
       record {
         row-room = omega (arith, row-within m n j l, rows .room);
-        room = room;
+        room = omega arith;
         small =
             λ i c. omega (
               arith,

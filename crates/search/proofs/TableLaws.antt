@@ -4,7 +4,7 @@ use native.Mathlib.Nat.{zero-add, mul-zero, not-suc-le-zero, mod-lt, mod-add-div
 use native.Mathlib.Decide.{decLt}
 use native.Mathlib.Omega.{arith}
 use mathlib.Core.Path.{_≡_, refl, sym, ap, ap₂, subst, _∙_}
-use mathlib.Core.Bool.{Bool, false}
+use mathlib.Core.Bool.{Bool}
 use mathlib.Core.List.{List}
 use lib.ListN.{length, getD, set, replicate, length-replicate, getD-replicate, List·getD-eq-default}
 use lib.Seq.{getD-set-same, getD-set-other}
@@ -53,15 +53,15 @@ module _ (s : List ℕ) (from : ℕ) where
 -- ---- tables for the search
 
 -- before the sheet is read into them
-pub blank : (m n : ℕ) → m ≤ 32 → n ≤ 128 → Blank m n (replicate 32 2000000000) (replicate 4128 0) (replicate 32 0)
+pub blank : (m n : ℕ) → m ≤ 32 → n ≤ 128 → Blank m n (replicate 32 2000000000) (replicate 4128 0) (replicate 1344 0)
 blank m n yards farms =
     record {
       opening-room = omega (arith, length-replicate {A = ℕ} 32 2000000000);
       opening-high = all-same 32 2000000000;
       service-room = omega (arith, length-replicate {A = ℕ} 4128 0, few-hauls m n yards farms);
       service-low = λ k. omega (arith, all-same 4128 0 k);
-      sums-room = omega (arith, length-replicate {A = ℕ} 32 0);
-      sums-zero = λ k l. getD-replicate {A = ℕ} 32 k 0 0 l;
+      kept-room = omega (arith, length-replicate {A = ℕ} 1344 0);
+      kept-zero = λ k l. getD-replicate {A = ℕ} 1344 k 0 0 l;
     }
   where
     all-same : (n x k : ℕ) → getD (replicate n x) k 0 ≤ x

@@ -14,15 +14,19 @@ pub record Within (s : List ℕ) (m n : ℕ) : Type 0 where
 abbrev pub Behind : ℕ → List ℕ → List ℕ → Type 0
 Behind count before after = (k : ℕ) → count ≤ k → getD after k 0 ≡ getD before k 0
 
+-- the first so many places of a table hold one number
+abbrev pub Front : ℕ → ℕ → List ℕ → Type 0
+Front count x table = (k : ℕ) → k < count → getD table k 0 ≡ x
+
 -- every place of a table holds at most so much
 abbrev pub AtMost : ℕ → List ℕ → Type 0
 AtMost most table = (k : ℕ) → getD table k 0 ≤ most
 
--- tables before the sheet is read into them: room enough, places that are no yard's never look cheap, and nothing is summed
-pub record Blank (m n : ℕ) (opening service sums : List ℕ) : Type 0 where
+-- tables before the sheet is read into them: room enough, places that are no yard's never look cheap, and nothing is kept yet
+pub record Blank (m n : ℕ) (opening service kept : List ℕ) : Type 0 where
   pub opening-room : 32 ≤ length opening
   pub opening-high : AtMost 2000000000 opening
   pub service-room : n * m + 32 ≤ length service
   pub service-low : AtMost 1000000 service
-  pub sums-room : 32 ≤ length sums
-  pub sums-zero : Zeros 32 sums
+  pub kept-room : 1344 ≤ length kept
+  pub kept-zero : Zeros 1344 kept

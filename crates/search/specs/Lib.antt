@@ -1,6 +1,7 @@
 -- Tables: the instance that the search's tables hold, for private functions alone. Settling: a set with its cost, the kinds of move,
 -- where the searches end. Prices: what the search keeps to price every move, for private functions alone.
 -- Planning: question 7, and what the two plans answer and write. Promises: "no move left" and demand 3.
+-- Searching: the two searches alone, without question 6.
 pub mod Tables
 pub mod Amounts
 pub mod Prices
@@ -12,3 +13,4 @@ pub mod Standing
 pub mod Settling
 pub mod Planning
 pub mod Promises
+pub mod Searching

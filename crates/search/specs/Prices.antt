@@ -1,5 +1,11 @@
 -- What the search keeps from move to move, for private functions alone: each client's two nearest facilities of the set, and sums over
--- the clients by which every move is priced with a few additions.
+-- the clients by which every move is priced with a few additions. All of it stands in one table of 1344 places:
+--
+--   from 0     the nearest facility of each of 128 clients
+--   from 128   the second nearest
+--   from 256   for each of 32 facilities the service cost with it added
+--   from 288   for each what its clients pay more where it goes
+--   from 320   for each of them, in a row of 32, what its clients pay more where another one comes for it
 use Prim.Native.Nat.{ℕ, _+_, _-_, _*_, _/_, _%_, _≤_, _<_, min}
 use mathlib.Core.Path.{_≡_}
 use mathlib.Core.Bool.{Bool, true, false, cond, not, _&&_, _||_}
@@ -42,10 +48,16 @@ pub record InOrder (near : Near) : Type 0 where
   pub ordered : near .first ≤ near .second
   pub within : near .second ≤ 32000031
 
--- client j's places in the two tables hold its two nearest facilities of the set
-pub record NearAt (m : ℕ) (service firsts seconds : List ℕ) (set j : ℕ) : Type 0 where
-  pub first : getD firsts j 0 ≡ nearTwo m service set j .first
-  pub second : getD seconds j 0 ≡ nearTwo m service set j .second
+abbrev pub firstAt : List ℕ → ℕ → ℕ
+firstAt kept j = getD kept j 0
+
+abbrev pub secondAt : List ℕ → ℕ → ℕ
+secondAt kept j = getD kept (128 + j) 0
+
+-- client j's two places hold its two nearest facilities of the set
+pub record NearAt (m : ℕ) (service kept : List ℕ) (set j : ℕ) : Type 0 where
+  pub first : firstAt kept j ≡ nearTwo m service set j .first
+  pub second : secondAt kept j ≡ nearTwo m service set j .second
 
 -- ---- from one set to the next
 
@@ -75,49 +87,43 @@ goesTo near o = eqb (near .first % 32) o || eqb (near .second % 32) o
 
 -- the service cost with facility i added
 unfoldable pub addedSum : ℕ → ℕ → List ℕ → List ℕ → ℕ → ℕ
-addedSum m n service firsts i = sum n (λ j. min (entry m service j i) (getD firsts j 0 / 32))
+addedSum m n service kept i = sum n (λ j. min (entry m service j i) (firstAt kept j / 32))
 
 -- what the clients of facility o pay more where i comes for it, than where i comes and o stays
-unfoldable pub moreSum : ℕ → ℕ → List ℕ → List ℕ → List ℕ → ℕ → ℕ → ℕ
-moreSum m n service firsts seconds o i =
-    sum n (λ j. on (eqb (getD firsts j 0 % 32) o)
-    (min (entry m service j i) (getD seconds j 0 / 32) - min (entry m service j i) (getD firsts j 0 / 32)))
+unfoldable pub moreSum : ℕ → ℕ → List ℕ → List ℕ → ℕ → ℕ → ℕ
+moreSum m n service kept o i =
+    sum n (λ j. on (eqb (firstAt kept j % 32) o)
+    (min (entry m service j i) (secondAt kept j / 32) - min (entry m service j i) (firstAt kept j / 32)))
 
 -- what the clients of facility o pay more where it goes
-unfoldable pub lossSum : ℕ → List ℕ → List ℕ → ℕ → ℕ
-lossSum n firsts seconds o = sum n (λ j. on (eqb (getD firsts j 0 % 32) o) (getD seconds j 0 / 32 - getD firsts j 0 / 32))
+unfoldable pub lossSum : ℕ → List ℕ → ℕ → ℕ
+lossSum n kept o = sum n (λ j. on (eqb (firstAt kept j % 32) o) (secondAt kept j / 32 - firstAt kept j / 32))
 
--- The tables hold these sums, whatever facilities stand for a client's two nearest. A row of `more` has 32 places.
-pub record Kept (m n : ℕ) (service firsts seconds added more loss : List ℕ) : Type 0 where
+-- the table holds these sums, whatever facilities stand for a client's two nearest
+pub record Kept (m n : ℕ) (service kept : List ℕ) : Type 0 where
   pub rows : Rows m n service
-  pub first-room : n ≤ length firsts
-  pub second-room : n ≤ length seconds
-  pub added-room : 32 ≤ length added
-  pub more-room : 1024 ≤ length more
-  pub loss-room : 32 ≤ length loss
-  pub ordered : (j : ℕ) → j < n → getD firsts j 0 ≤ getD seconds j 0
-  pub within : (j : ℕ) → j < n → getD seconds j 0 ≤ 32000031
-  pub added-is : (i : ℕ) → i < 32 → getD added i 0 ≡ addedSum m n service firsts i
-  pub more-is : (o i : ℕ) → o < 32 → i < 32 → getD more (32 * o + i) 0 ≡ moreSum m n service firsts seconds o i
-  pub loss-is : (o : ℕ) → o < 32 → getD loss o 0 ≡ lossSum n firsts seconds o
+  pub room : 1344 ≤ length kept
+  pub ordered : (j : ℕ) → j < n → firstAt kept j ≤ secondAt kept j
+  pub within : (j : ℕ) → j < n → secondAt kept j ≤ 32000031
+  pub added-is : (i : ℕ) → i < 32 → getD kept (256 + i) 0 ≡ addedSum m n service kept i
+  pub loss-is : (o : ℕ) → o < 32 → getD kept (288 + o) 0 ≡ lossSum n kept o
+  pub more-is : (o i : ℕ) → o < 32 → i < 32 → getD kept (320 + 32 * o + i) 0 ≡ moreSum m n service kept o i
 
 -- ---- the price of every move
 
--- By three tables every move out of the set is priced: an add by its cost, a drop by the cost now, its loss and what is saved of
--- opening costs, a swap by the add, what the clients of the one going out pay more, and the same saving.
-pub record MovePrices (m n : ℕ) (opening service : List ℕ) (set : ℕ) (costs more loss : List ℕ) : Type 0 where
+-- Every move out of the set is priced: an add by its cost, a drop by the cost now, its loss and what is saved of opening costs, a swap
+-- by the add, what the clients of the one going out pay more, and the same saving.
+pub record MovePrices (m n : ℕ) (opening service : List ℕ) (set : ℕ) (costs kept : List ℕ) : Type 0 where
   pub few-facilities : m ≤ 32
   pub opening-room : 32 ≤ length opening
   pub costs-room : 32 ≤ length costs
-  pub more-room : 1024 ≤ length more
-  pub loss-room : 32 ≤ length loss
+  pub kept-room : 1344 ≤ length kept
   pub opening-small : (i : ℕ) → i < m → getD opening i 0 ≤ 50000000
   pub costs-small : (i : ℕ) → i < 32 → getD costs i 0 ≤ 4000000000
-  pub more-small : (k : ℕ) → k < 1024 → getD more k 0 ≤ 128000000
-  pub loss-small : (o : ℕ) → o < 32 → getD loss o 0 ≤ 128000000
+  pub kept-small : (k : ℕ) → 256 ≤ k → k < 1344 → getD kept k 0 ≤ 128000000
   pub cost-small : tableCost m n opening service set ≤ 2000000000
   pub add : (i : ℕ) → i < m → member set i ≡ false → getD costs i 0 ≡ tableCost m n opening service (with set i)
   pub drop : (o : ℕ) → o < m → member set o ≡ true → 2 ≤ count m (member set)
-      → tableCost m n opening service set + getD loss o 0 ≡ tableCost m n opening service (without set o) + getD opening o 0
+      → tableCost m n opening service set + getD kept (288 + o) 0 ≡ tableCost m n opening service (without set o) + getD opening o 0
   pub swap : (o i : ℕ) → o < m → member set o ≡ true → i < m → member set i ≡ false
-      → getD more (32 * o + i) 0 + getD costs i 0 ≡ tableCost m n opening service (with (without set o) i) + getD opening o 0
+      → getD kept (320 + 32 * o + i) 0 + getD costs i 0 ≡ tableCost m n opening service (with (without set o) i) + getD opening o 0

@@ -20,17 +20,38 @@ pub record Shifted (count : ℕ) (service : List ℕ) (row plus minus : ℕ) (be
   pub below : (k : ℕ) → k < at → getD after k 0 ≡ getD before k 0
   pub above : (k : ℕ) → at + count ≤ k → getD after k 0 ≡ getD before k 0
 
--- the first sums, one for each column, can take on a row
-pub record Addable (width : ℕ) (service : List ℕ) (row : ℕ) (sums : List ℕ) : Type 0 where
+-- Of the 32 sums from 256 on and those from `at` on, which lie behind them, so many have been shifted, each stretch by its own two
+-- costs; the other places are as they were.
+pub record ShiftedBoth (count : ℕ) (service : List ℕ) (row last first second : ℕ) (before : List ℕ) (at : ℕ) (after : List ℕ) : Type 0 where
+  pub added : (i : ℕ) → i < count
+      → getD after (256 + i) 0 + (getD service (row + i) 0 - first) ≡ getD before (256 + i) 0 + (getD service (row + i) 0 - last)
+  pub more : (i : ℕ) → i < count
+      → getD after (at + i) 0 + (getD service (row + i) 0 - second) ≡ getD before (at + i) 0 + (getD service (row + i) 0 - first)
+  pub below : (k : ℕ) → k < 256 → getD after k 0 ≡ getD before k 0
+  pub between : (k : ℕ) → 256 + count ≤ k → k < at → getD after k 0 ≡ getD before k 0
+  pub above : (k : ℕ) → at + count ≤ k → getD after k 0 ≡ getD before k 0
+
+-- the sums from 256 on, one for each column, can take on a row
+pub record Addable (width : ℕ) (service : List ℕ) (row : ℕ) (kept : List ℕ) : Type 0 where
   pub row-room : row + width ≤ length service
-  pub room : width ≤ length sums
-  pub small : (i : ℕ) → i < width → getD sums i 0 + getD service (row + i) 0 < 4294967296
+  pub room : 256 + width ≤ length kept
+  pub small : (i : ℕ) → i < width → getD kept (256 + i) 0 + getD service (row + i) 0 < 4294967296
 
--- the first so many sums have taken on a row, and the others are as they were
+-- so many sums from 256 on have taken on a row, and the other places are as they were
 pub record RowAdded (count : ℕ) (service : List ℕ) (row : ℕ) (before after : List ℕ) : Type 0 where
-  pub inside : (i : ℕ) → i < count → getD after i 0 ≡ getD before i 0 + getD service (row + i) 0
-  pub above : (k : ℕ) → count ≤ k → getD after k 0 ≡ getD before k 0
+  pub inside : (i : ℕ) → i < count → getD after (256 + i) 0 ≡ getD before (256 + i) 0 + getD service (row + i) 0
+  pub below : (k : ℕ) → k < 256 → getD after k 0 ≡ getD before k 0
+  pub above : (k : ℕ) → 256 + count ≤ k → getD after k 0 ≡ getD before k 0
 
--- the front of a table holds the sums of 32 columns over n rows
+-- but for the 32 sums from 256 on a table is as it was
+pub record Aside (before after : List ℕ) : Type 0 where
+  pub below : (k : ℕ) → k < 256 → getD after k 0 ≡ getD before k 0
+  pub above : (k : ℕ) → 288 ≤ k → getD after k 0 ≡ getD before k 0
+
+-- the 32 sums from 256 on are zeros
+abbrev pub NoSums : List ℕ → Type 0
+NoSums kept = (i : ℕ) → i < 32 → getD kept (256 + i) 0 ≡ 0
+
+-- from place 256 on the table holds the sums of 32 columns over n rows
 abbrev pub ColumnSums : ℕ → ℕ → List ℕ → List ℕ → Type 0
-ColumnSums m n service sums = (i : ℕ) → i < 32 → getD sums i 0 ≡ sum n (λ j. entry m service j i)
+ColumnSums m n service kept = (i : ℕ) → i < 32 → getD kept (256 + i) 0 ≡ sum n (λ j. entry m service j i)

@@ -2,12 +2,12 @@
 ghost use mathlib.Core.Path.{_≡_};
 ghost use mathlib.Core.Bool.{true};
 ghost use Prim.Native.Nat.{_^_, _<_};
-ghost use lib.ListN.{getD};
 ghost use Rattle.model.specs.Least.{any};
 ghost use Rattle.model.specs.Sets.{member};
-ghost use Rattle.search.specs.Prices.{Kept, NearAt, Moved, newIn};
+ghost use Rattle.search.specs.Prices.{Kept, firstAt, secondAt, NearAt, Moved, newIn};
 ghost use Rattle.search.specs.Standing.{Standing, Listed, NearUpTo, NearFrom, Others, keeps};
 use crate::near::Near;
+use crate::near::SECONDS;
 use crate::near::arrival;
 use crate::near::goes_to;
 use crate::near::near_after;
@@ -25,20 +25,15 @@ fn begin_client(
     set: u32,
     list: &[u8],
     count: usize,
-    firsts: &mut [u32],
-    seconds: &mut [u32],
-    added: &mut [u32],
-    more: &mut [u32],
-    loss: &mut [u32],
+    kept: &mut [u32],
 )
-    requires { ⌜ Kept m n (now service) (now firsts) (now seconds) (now added) (now more) (now loss) × (j < n) × (getD (now seconds) j 0 ≡ getD (now firsts) j 0) × (set < 2 ^ m) × Listed set (now list) count ⌝ }
-    ensures kept { λ _. ⌜ Kept m n (now (service .entry)) (now (firsts .exit)) (now (seconds .exit)) (now (added .exit)) (now (more .exit)) (now (loss .exit)) ⌝ }
-    ensures near { λ _. ⌜ NearAt m (now (service .entry)) (now (firsts .exit)) (now (seconds .exit)) set j ⌝ }
-    ensures firsts { λ _. ⌜ Others j (now (firsts .entry)) (now (firsts .exit)) ⌝ }
-    ensures seconds { λ _. ⌜ Others j (now (seconds .entry)) (now (seconds .exit)) ⌝ }
+    requires { ⌜ Kept m n (now service) (now kept) × (j < n) × (secondAt (now kept) j ≡ firstAt (now kept) j) × (set < 2 ^ m) × Listed set (now list) count ⌝ }
+    ensures kept { λ _. ⌜ Kept m n (now (service .entry)) (now (kept .exit)) ⌝ }
+    ensures near { λ _. ⌜ NearAt m (now (service .entry)) (now (kept .exit)) set j ⌝ }
+    ensures others { λ _. ⌜ Others j (now (kept .entry)) (now (kept .exit)) ⌝ }
 {
     let near = near_of(service, m, n, j, set, list, count);
-    enter(service, m, n, j, near, firsts, seconds, added, more, loss);
+    enter(service, m, n, j, near, kept);
 }
 
 fn begin_clients(
@@ -48,67 +43,28 @@ fn begin_clients(
     set: u32,
     list: &[u8],
     count: usize,
-    firsts: &mut [u32],
-    seconds: &mut [u32],
-    added: &mut [u32],
-    more: &mut [u32],
-    loss: &mut [u32],
+    kept: &mut [u32],
 )
-    requires { ⌜ Kept m n (now service) (now firsts) (now seconds) (now added) (now more) (now loss) × NearUpTo m n (now service) (now firsts) (now seconds) set 0 × (set < 2 ^ m) × Listed set (now list) count ⌝ }
-    ensures kept { λ _. ⌜ Kept m n (now (service .entry)) (now (firsts .exit)) (now (seconds .exit)) (now (added .exit)) (now (more .exit)) (now (loss .exit)) ⌝ }
-    ensures near { λ _. ⌜ NearUpTo m n (now (service .entry)) (now (firsts .exit)) (now (seconds .exit)) set n ⌝ }
+    requires { ⌜ Kept m n (now service) (now kept) × NearUpTo m n (now service) (now kept) set 0 × (set < 2 ^ m) × Listed set (now list) count ⌝ }
+    ensures kept { λ _. ⌜ Kept m n (now (service .entry)) (now (kept .exit)) ⌝ }
+    ensures near { λ _. ⌜ NearUpTo m n (now (service .entry)) (now (kept .exit)) set n ⌝ }
 {
     let mut j = 0;
     while j < n {
-        begin_client(
-            service,
-            m,
-            n,
-            j,
-            set,
-            list,
-            count,
-            firsts,
-            seconds,
-            added,
-            more,
-            loss,
-        );
+        begin_client(service, m, n, j, set, list, count, kept);
         j += 1;
     }
 }
 
 // Counts every client for a first set.
-pub(crate) fn begin(
-    service: &[u32],
-    m: usize,
-    n: usize,
-    set: u32,
-    firsts: &mut [u32],
-    seconds: &mut [u32],
-    added: &mut [u32],
-    more: &mut [u32],
-    loss: &mut [u32],
-)
-    requires { ⌜ Kept m n (now service) (now firsts) (now seconds) (now added) (now more) (now loss) × NearUpTo m n (now service) (now firsts) (now seconds) set 0 × (set < 2 ^ m) × (any m (member set) ≡ true) ⌝ }
-    ensures { λ _. ⌜ Standing m n (now (service .entry)) set (now (firsts .exit)) (now (seconds .exit)) (now (added .exit)) (now (more .exit)) (now (loss .exit)) ⌝ }
+pub(crate) fn begin(service: &[u32], m: usize, n: usize, set: u32, kept: &mut [u32])
+    requires { ⌜ Kept m n (now service) (now kept) × NearUpTo m n (now service) (now kept) set 0 × (set < 2 ^ m) × (any m (member set) ≡ true) ⌝ }
+    ensures { λ _. ⌜ Standing m n (now (service .entry)) set (now (kept .exit)) ⌝ }
 {
     let members = sets::members_of(set);
     let list = members.list;
     let count = members.count;
-    begin_clients(
-        service,
-        m,
-        n,
-        set,
-        &list,
-        count,
-        firsts,
-        seconds,
-        added,
-        more,
-        loss,
-    );
+    begin_clients(service, m, n, set, &list, count, kept);
 }
 
 // Does the client keep its two nearest?
@@ -130,21 +86,16 @@ fn move_client(
     went: usize,
     list: &[u8],
     count: usize,
-    firsts: &mut [u32],
-    seconds: &mut [u32],
-    added: &mut [u32],
-    more: &mut [u32],
-    loss: &mut [u32],
+    kept: &mut [u32],
 )
-    requires { ⌜ Kept m n (now service) (now firsts) (now seconds) (now added) (now more) (now loss) × (j < n) × NearAt m (now service) (now firsts) (now seconds) set j × Moved m set next came went × (next < 2 ^ m) × Listed next (now list) count ⌝ }
-    ensures kept { λ _. ⌜ Kept m n (now (service .entry)) (now (firsts .exit)) (now (seconds .exit)) (now (added .exit)) (now (more .exit)) (now (loss .exit)) ⌝ }
-    ensures near { λ _. ⌜ NearAt m (now (service .entry)) (now (firsts .exit)) (now (seconds .exit)) next j ⌝ }
-    ensures firsts { λ _. ⌜ Others j (now (firsts .entry)) (now (firsts .exit)) ⌝ }
-    ensures seconds { λ _. ⌜ Others j (now (seconds .entry)) (now (seconds .exit)) ⌝ }
+    requires { ⌜ Kept m n (now service) (now kept) × (j < n) × NearAt m (now service) (now kept) set j × Moved m set next came went × (next < 2 ^ m) × Listed next (now list) count ⌝ }
+    ensures kept { λ _. ⌜ Kept m n (now (service .entry)) (now (kept .exit)) ⌝ }
+    ensures near { λ _. ⌜ NearAt m (now (service .entry)) (now (kept .exit)) next j ⌝ }
+    ensures others { λ _. ⌜ Others j (now (kept .entry)) (now (kept .exit)) ⌝ }
 {
     let near = Near {
-        first: firsts[j],
-        second: seconds[j],
+        first: kept[j],
+        second: kept[SECONDS + j],
     };
     let arrived = arrival(service, m, n, j, came);
     if keeps_both(near, arrived, went) {
@@ -164,7 +115,7 @@ fn move_client(
         list,
         count,
     );
-    change(service, m, n, j, after, firsts, seconds, added, more, loss);
+    change(service, m, n, j, after, kept);
 }
 
 fn move_clients(
@@ -177,74 +128,28 @@ fn move_clients(
     went: usize,
     list: &[u8],
     count: usize,
-    firsts: &mut [u32],
-    seconds: &mut [u32],
-    added: &mut [u32],
-    more: &mut [u32],
-    loss: &mut [u32],
+    kept: &mut [u32],
 )
-    requires { ⌜ Kept m n (now service) (now firsts) (now seconds) (now added) (now more) (now loss) × NearFrom m n (now service) (now firsts) (now seconds) set next 0 × Moved m set next came went × (next < 2 ^ m) × Listed next (now list) count ⌝ }
-    ensures kept { λ _. ⌜ Kept m n (now (service .entry)) (now (firsts .exit)) (now (seconds .exit)) (now (added .exit)) (now (more .exit)) (now (loss .exit)) ⌝ }
-    ensures near { λ _. ⌜ NearFrom m n (now (service .entry)) (now (firsts .exit)) (now (seconds .exit)) set next n ⌝ }
+    requires { ⌜ Kept m n (now service) (now kept) × NearFrom m n (now service) (now kept) set next 0 × Moved m set next came went × (next < 2 ^ m) × Listed next (now list) count ⌝ }
+    ensures kept { λ _. ⌜ Kept m n (now (service .entry)) (now (kept .exit)) ⌝ }
+    ensures near { λ _. ⌜ NearFrom m n (now (service .entry)) (now (kept .exit)) set next n ⌝ }
 {
     let mut j = 0;
     while j < n {
-        move_client(
-            service,
-            m,
-            n,
-            j,
-            set,
-            next,
-            came,
-            went,
-            list,
-            count,
-            firsts,
-            seconds,
-            added,
-            more,
-            loss,
-        );
+        move_client(service, m, n, j, set, next, came, went, list, count, kept);
         j += 1;
     }
 }
 
 // Goes from a set to the next one, which a move makes of it.
-pub(crate) fn move_to(
-    service: &[u32],
-    m: usize,
-    n: usize,
-    set: u32,
-    next: u32,
-    firsts: &mut [u32],
-    seconds: &mut [u32],
-    added: &mut [u32],
-    more: &mut [u32],
-    loss: &mut [u32],
-)
-    requires { ⌜ Standing m n (now service) set (now firsts) (now seconds) (now added) (now more) (now loss) × Moved m set next (newIn set next) (newIn next set) × (next < 2 ^ m) × (any m (member next) ≡ true) ⌝ }
-    ensures { λ _. ⌜ Standing m n (now (service .entry)) next (now (firsts .exit)) (now (seconds .exit)) (now (added .exit)) (now (more .exit)) (now (loss .exit)) ⌝ }
+pub(crate) fn move_to(service: &[u32], m: usize, n: usize, set: u32, next: u32, kept: &mut [u32])
+    requires { ⌜ Standing m n (now service) set (now kept) × Moved m set next (newIn set next) (newIn next set) × (next < 2 ^ m) × (any m (member next) ≡ true) ⌝ }
+    ensures { λ _. ⌜ Standing m n (now (service .entry)) next (now (kept .exit)) ⌝ }
 {
     let came = newcomer(set, next);
     let went = newcomer(next, set);
     let members = sets::members_of(next);
     let list = members.list;
     let count = members.count;
-    move_clients(
-        service,
-        m,
-        n,
-        set,
-        next,
-        came,
-        went,
-        &list,
-        count,
-        firsts,
-        seconds,
-        added,
-        more,
-        loss,
-    );
+    move_clients(service, m, n, set, next, came, went, &list, count, kept);
 }

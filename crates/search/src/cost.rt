@@ -7,6 +7,7 @@ ghost use Rattle.model.specs.Sets.{member};
 ghost use Rattle.model.specs.Instance.{openingCost};
 ghost use Rattle.search.specs.Tables.{Tables, tabled};
 ghost use Rattle.search.specs.Adding.{Adding, Added};
+use crate::near::ADDED;
 
 fn opening_of(opening: &[u32], set: u32, i: usize) -> u64
     requires { ⌜ i < length (now opening) ⌝ }
@@ -34,37 +35,37 @@ pub(crate) fn opening_cost(opening: &[u32], service: &[u32], m: usize, n: usize,
     total
 }
 
-fn nearest_cost(firsts: &[u32], j: usize) -> u64
-    requires { ⌜ j < length (now firsts) ⌝ }
-    ensures exact { λ r. ⌜ r ≡ getD (now (firsts .entry)) j 0 / 32 ⌝ }
+fn nearest_cost(kept: &[u32], j: usize) -> u64
+    requires { ⌜ j < length (now kept) ⌝ }
+    ensures exact { λ r. ⌜ r ≡ getD (now (kept .entry)) j 0 / 32 ⌝ }
     ensures small { λ r. ⌜ r ≤ 4294967296 ⌝ }
 {
-    (firsts[j] / 32) as u64
+    (kept[j] / 32) as u64
 }
 
 // What it costs to serve all clients from their nearest facilities.
-pub(crate) fn nearest_costs(firsts: &[u32], n: usize) -> u64
-    requires { ⌜ (n ≤ length (now firsts)) × (n ≤ 128) ⌝ }
-    ensures exact { λ r. ⌜ r ≡ sum n (λ j. getD (now (firsts .entry)) j 0 / 32) ⌝ }
+pub(crate) fn nearest_costs(kept: &[u32], n: usize) -> u64
+    requires { ⌜ (n ≤ length (now kept)) × (n ≤ 128) ⌝ }
+    ensures exact { λ r. ⌜ r ≡ sum n (λ j. getD (now (kept .entry)) j 0 / 32) ⌝ }
     ensures small { λ r. ⌜ r ≤ n * 4294967296 ⌝ }
 {
     let mut total: u64 = 0;
     let mut j = 0;
     while j < n {
-        total += nearest_cost(firsts, j);
+        total += nearest_cost(kept, j);
         j += 1;
     }
     total
 }
 
 // The cost with each facility added: opening costs of the set and of the facility, and the service cost with it.
-pub(crate) fn add_up(fees: u32, opening: &[u32], added: &[u32], costs: &mut [u32])
-    requires { ⌜ Adding fees (now opening) (now added) (now costs) ⌝ }
-    ensures { λ _. ⌜ Added 32 fees (now (opening .entry)) (now (added .entry)) (now (costs .exit)) ⌝ }
+pub(crate) fn add_up(fees: u32, opening: &[u32], kept: &[u32], costs: &mut [u32])
+    requires { ⌜ Adding fees (now opening) (now kept) (now costs) ⌝ }
+    ensures { λ _. ⌜ Added 32 fees (now (opening .entry)) (now (kept .entry)) (now (costs .exit)) ⌝ }
 {
     let mut i = 0;
     while i < 32 {
-        costs[i] = fees + opening[i] + added[i];
+        costs[i] = fees + opening[i] + kept[ADDED + i];
         i += 1;
     }
 }

@@ -21,13 +21,9 @@ use crate::moves::Neighbourhood;
 use crate::moves::Priced;
 use crate::moves::best_move;
 use crate::moves::better_of;
-use crate::near::FARTHEST;
-
-const CLIENTS: usize = 128;
+use crate::near::ADDED;
 
 const FACILITIES: usize = 32;
-
-const PAIRS: usize = 1024;
 
 // Where a search ends: the set, its cost, and the moves made.
 pub struct Settled {
@@ -37,11 +33,11 @@ pub struct Settled {
 }
 
 // What a yard costs alone, where it serves every farm.
-fn alone_cost(opening: &[u32], sums: &[u32], i: usize) -> u64
-    requires { ⌜ (i < length (now opening)) × (i < length (now sums)) ⌝ }
-    ensures { λ r. ⌜ r ≡ getD (now (opening .entry)) i 0 + getD (now (sums .entry)) i 0 ⌝ }
+fn alone_cost(opening: &[u32], kept: &[u32], i: usize) -> u64
+    requires { ⌜ (i < length (now opening)) × (256 + i < length (now kept)) ⌝ }
+    ensures { λ r. ⌜ r ≡ getD (now (opening .entry)) i 0 + getD (now (kept .entry)) (256 + i) 0 ⌝ }
 {
-    (opening[i] as u64) + (sums[i] as u64)
+    (opening[i] as u64) + (kept[ADDED + i] as u64)
 }
 
 // The single yard of least cost, the lowest number among equals, by the sums of the hauls to each yard.
@@ -50,18 +46,18 @@ pub(crate) fn cheapest_yard(
     service: &[u32],
     m: usize,
     n: usize,
-    sums: &[u32],
+    kept: &[u32],
 ) -> Priced
-    requires { ⌜ Rows m n (now service) × Fees m (now opening) × (1 ≤ m) × (32 ≤ length (now sums)) × ColumnSums m n (now service) (now sums) ⌝ }
+    requires { ⌜ Rows m n (now service) × Fees m (now opening) × (1 ≤ m) × (1344 ≤ length (now kept)) × ColumnSums m n (now service) (now kept) ⌝ }
     ensures { λ r. ⌜ r ≡ priced (tableCost m n (now (opening .entry)) (now (service .entry))) (openStart (tabled m n (now (opening .entry)) (now (service .entry)))) ⌝ }
 {
     let mut b = Priced {
         set: 1,
-        cost: alone_cost(opening, sums, 0),
+        cost: alone_cost(opening, kept, 0),
     };
     let mut i = 1;
     while i < m {
-        b = better_of(sets::added(0, i), alone_cost(opening, sums, i), b);
+        b = better_of(sets::added(0, i), alone_cost(opening, kept, i), b);
         i += 1;
     }
     b
@@ -75,59 +71,39 @@ fn choose(
     m: usize,
     n: usize,
     b: Priced,
-    firsts: &[u32],
-    seconds: &[u32],
-    added: &[u32],
-    more: &[u32],
-    loss: &[u32],
+    kept: &[u32],
 ) -> Priced
-    requires { ⌜ Standing m n (now service) (b .set) (now firsts) (now seconds) (now added) (now more) (now loss) × Fees m (now opening) × Ready m n (now opening) (now service) b ⌝ }
+    requires { ⌜ Standing m n (now service) (b .set) (now kept) × Fees m (now opening) × Ready m n (now opening) (now service) b ⌝ }
     ensures { λ r. ⌜ r ≡ priced (tableCost m n (now (opening .entry)) (now (service .entry))) (next (tableCost m n (now (opening .entry)) (now (service .entry))) (neighboursBy neighbourhood m) (b .set)) ⌝ }
 {
     let mut costs = [0u32; FACILITIES];
     let fees = opening_cost(opening, service, m, n, b.set) as u32;
-    add_up(fees, opening, added, &mut costs);
-    best_move(neighbourhood, opening, service, m, n, b, &costs, more, loss)
+    add_up(fees, opening, kept, &mut costs);
+    best_move(neighbourhood, opening, service, m, n, b, &costs, kept)
 }
 
-// From a start, the set whose cost no move lowers, on tables that are lent.
-fn settle_on(
+// From a start, the set whose cost no move lowers, by the table that is lent: nothing is counted in it yet.
+pub(crate) fn settle(
     neighbourhood: Neighbourhood,
     opening: &[u32],
     service: &[u32],
     m: usize,
     n: usize,
     start: u32,
-    firsts: &mut [u32],
-    seconds: &mut [u32],
-    added: &mut [u32],
-    more: &mut [u32],
-    loss: &mut [u32],
+    kept: &mut [u32],
 ) -> Settled
-    requires { ⌜ Kept m n (now service) (now firsts) (now seconds) (now added) (now more) (now loss) × NearUpTo m n (now service) (now firsts) (now seconds) start 0 × Fees m (now opening) × (start < 2 ^ m) × (any m (member start) ≡ true) ⌝ }
+    requires { ⌜ Kept m n (now service) (now kept) × NearUpTo m n (now service) (now kept) start 0 × Fees m (now opening) × (start < 2 ^ m) × (any m (member start) ≡ true) ⌝ }
     ensures { λ r. ⌜ r ≡ settledAt (tableCost m n (now (opening .entry)) (now (service .entry))) (search (tableCost m n (now (opening .entry)) (now (service .entry))) (neighboursBy neighbourhood m) start) ⌝ }
 {
-    begin(service, m, n, start, firsts, seconds, added, more, loss);
+    begin(service, m, n, start, kept);
     let fees = opening_cost(opening, service, m, n, start);
     let mut b = Priced {
         set: start,
-        cost: fees + nearest_costs(firsts, n),
+        cost: fees + nearest_costs(kept, n),
     };
     let mut made: u64 = 0;
     loop {
-        let next = choose(
-            neighbourhood,
-            opening,
-            service,
-            m,
-            n,
-            b,
-            firsts,
-            seconds,
-            added,
-            more,
-            loss,
-        );
+        let next = choose(neighbourhood, opening, service, m, n, b, kept);
         let cost = b.cost;
         let lowest = next.cost;
         if cost <= lowest {
@@ -137,51 +113,8 @@ fn settle_on(
                 moves: made,
             };
         }
-        move_to(
-            service,
-            m,
-            n,
-            b.set,
-            next.set,
-            firsts,
-            seconds,
-            added,
-            more,
-            loss,
-        );
+        move_to(service, m, n, b.set, next.set, kept);
         b = next;
         made += 1;
     }
-}
-
-// From a start, the set whose cost no move lowers. `sums` are the sums of the hauls to each yard; the search goes on in them.
-pub(crate) fn settle(
-    neighbourhood: Neighbourhood,
-    opening: &[u32],
-    service: &[u32],
-    m: usize,
-    n: usize,
-    start: u32,
-    sums: &mut [u32],
-) -> Settled
-    requires { ⌜ Rows m n (now service) × Fees m (now opening) × (start < 2 ^ m) × (any m (member start) ≡ true) × (32 ≤ length (now sums)) × ColumnSums m n (now service) (now sums) ⌝ }
-    ensures { λ r. ⌜ r ≡ settledAt (tableCost m n (now (opening .entry)) (now (service .entry))) (search (tableCost m n (now (opening .entry)) (now (service .entry))) (neighboursBy neighbourhood m) start) ⌝ }
-{
-    let mut firsts = [FARTHEST; CLIENTS];
-    let mut seconds = [FARTHEST; CLIENTS];
-    let mut more = [0u32; PAIRS];
-    let mut loss = [0u32; FACILITIES];
-    settle_on(
-        neighbourhood,
-        opening,
-        service,
-        m,
-        n,
-        start,
-        &mut firsts,
-        &mut seconds,
-        sums,
-        &mut more,
-        &mut loss,
-    )
 }

@@ -1,7 +1,7 @@
 // The moves out of a set, in document 01's order, each against the best set so far: the earliest of least cost stays.
 //
-// A move is priced by a few additions, from three tables (MovePrices): `costs` has what each add costs, `more` and `loss` what the
-// farms of a yard pay more where it goes.
+// A move is priced by a few additions, from two tables (MovePrices): `costs` has what each add costs, `kept` what the farms of a
+// yard pay more where it goes.
 ghost use mathlib.Core.Path.{_≡_};
 ghost use mathlib.Core.Bool.{true};
 ghost use Prim.Native.Nat.{_≤_, _<_};
@@ -14,6 +14,8 @@ ghost use Rattle.search.specs.Tables.{tableCost};
 ghost use Rattle.search.specs.Prices.{MovePrices};
 ghost use Rattle.search.specs.Choosing.{cheaper, Row, lowerAt};
 ghost use Rattle.search.specs.Settling.{priced, Ready, neighboursBy};
+use crate::near::LOSS;
+use crate::near::MORE;
 
 // A set with its cost.
 pub struct Priced {
@@ -47,10 +49,9 @@ fn try_add(
     i: usize,
     b: Priced,
     costs: &[u32],
-    more: &[u32],
-    loss: &[u32],
+    kept: &[u32],
 ) -> Priced
-    requires { ⌜ MovePrices m n (now opening) (now service) set (now costs) (now more) (now loss) × Ready m n (now opening) (now service) b × (i < m) ⌝ }
+    requires { ⌜ MovePrices m n (now opening) (now service) set (now costs) (now kept) × Ready m n (now opening) (now service) b × (i < m) ⌝ }
     ensures { λ r. ⌜ r ≡ priced (tableCost m n (now (opening .entry)) (now (service .entry))) (best (tableCost m n (now (opening .entry)) (now (service .entry))) (b .set) (addAt set i)) ⌝ }
 {
     if sets::has(set, i) {
@@ -67,16 +68,15 @@ fn best_add(
     set: u32,
     start: Priced,
     costs: &[u32],
-    more: &[u32],
-    loss: &[u32],
+    kept: &[u32],
 ) -> Priced
-    requires { ⌜ MovePrices m n (now opening) (now service) set (now costs) (now more) (now loss) × Ready m n (now opening) (now service) start ⌝ }
+    requires { ⌜ MovePrices m n (now opening) (now service) set (now costs) (now kept) × Ready m n (now opening) (now service) start ⌝ }
     ensures { λ r. ⌜ r ≡ priced (tableCost m n (now (opening .entry)) (now (service .entry))) (best (tableCost m n (now (opening .entry)) (now (service .entry))) (start .set) (adds m set)) ⌝ }
 {
     let mut b = start;
     let mut i = 0;
     while i < m {
-        b = try_add(opening, service, m, n, set, i, b, costs, more, loss);
+        b = try_add(opening, service, m, n, set, i, b, costs, kept);
         i += 1;
     }
     b
@@ -113,16 +113,15 @@ fn try_drop(
     o: usize,
     b: Priced,
     costs: &[u32],
-    more: &[u32],
-    loss: &[u32],
+    kept: &[u32],
 ) -> Priced
-    requires { ⌜ MovePrices m n (now opening) (now service) set (now costs) (now more) (now loss) × Ready m n (now opening) (now service) b × (o < m) × (2 ≤ count m (member set)) × (cost ≡ tableCost m n (now opening) (now service) set) ⌝ }
+    requires { ⌜ MovePrices m n (now opening) (now service) set (now costs) (now kept) × Ready m n (now opening) (now service) b × (o < m) × (2 ≤ count m (member set)) × (cost ≡ tableCost m n (now opening) (now service) set) ⌝ }
     ensures { λ r. ⌜ r ≡ priced (tableCost m n (now (opening .entry)) (now (service .entry))) (best (tableCost m n (now (opening .entry)) (now (service .entry))) (b .set) (dropAt set o)) ⌝ }
 {
     if !sets::has(set, o) {
         return b;
     }
-    let price = cost + loss[o] as u64 - opening[o] as u64;
+    let price = cost + kept[LOSS + o] as u64 - opening[o] as u64;
     better_of(sets::removed(set, o), price, b)
 }
 
@@ -136,10 +135,9 @@ fn best_drop(
     cost: u64,
     start: Priced,
     costs: &[u32],
-    more: &[u32],
-    loss: &[u32],
+    kept: &[u32],
 ) -> Priced
-    requires { ⌜ MovePrices m n (now opening) (now service) set (now costs) (now more) (now loss) × Ready m n (now opening) (now service) start × (cost ≡ tableCost m n (now opening) (now service) set) ⌝ }
+    requires { ⌜ MovePrices m n (now opening) (now service) set (now costs) (now kept) × Ready m n (now opening) (now service) start × (cost ≡ tableCost m n (now opening) (now service) set) ⌝ }
     ensures { λ r. ⌜ r ≡ priced (tableCost m n (now (opening .entry)) (now (service .entry))) (best (tableCost m n (now (opening .entry)) (now (service .entry))) (start .set) (drops m set)) ⌝ }
 {
     if open_count(set, m) < 2 {
@@ -148,7 +146,7 @@ fn best_drop(
     let mut b = start;
     let mut o = 0;
     while o < m {
-        b = try_drop(opening, service, m, n, set, cost, o, b, costs, more, loss);
+        b = try_drop(opening, service, m, n, set, cost, o, b, costs, kept);
         o += 1;
     }
     b
@@ -165,16 +163,15 @@ fn try_swap(
     i: usize,
     b: Priced,
     costs: &[u32],
-    more: &[u32],
-    loss: &[u32],
+    kept: &[u32],
 ) -> Priced
-    requires { ⌜ MovePrices m n (now opening) (now service) set (now costs) (now more) (now loss) × Ready m n (now opening) (now service) b × (o < m) × (member set o ≡ true) × (i < m) ⌝ }
+    requires { ⌜ MovePrices m n (now opening) (now service) set (now costs) (now kept) × Ready m n (now opening) (now service) b × (o < m) × (member set o ≡ true) × (i < m) ⌝ }
     ensures { λ r. ⌜ r ≡ priced (tableCost m n (now (opening .entry)) (now (service .entry))) (best (tableCost m n (now (opening .entry)) (now (service .entry))) (b .set) (swapAt set o i)) ⌝ }
 {
     if sets::has(set, i) {
         return b;
     }
-    let price = more[32 * o + i] as u64 + costs[i] as u64 - opening[o] as u64;
+    let price = kept[MORE + 32 * o + i] as u64 + costs[i] as u64 - opening[o] as u64;
     let without = sets::removed(set, o);
     better_of(sets::added(without, i), price, b)
 }
@@ -210,23 +207,22 @@ fn best_swap_out(
     o: usize,
     start: Priced,
     costs: &[u32],
-    more: &[u32],
-    loss: &[u32],
+    kept: &[u32],
 ) -> Priced
-    requires { ⌜ MovePrices m n (now opening) (now service) set (now costs) (now more) (now loss) × Ready m n (now opening) (now service) start × (start .cost ≤ 2000000000) × (o < m) ⌝ }
+    requires { ⌜ MovePrices m n (now opening) (now service) set (now costs) (now kept) × Ready m n (now opening) (now service) start × (start .cost ≤ 2000000000) × (o < m) ⌝ }
     ensures { λ r. ⌜ r ≡ priced (tableCost m n (now (opening .entry)) (now (service .entry))) (best (tableCost m n (now (opening .entry)) (now (service .entry))) (start .set) (swapsOut m set o)) ⌝ }
 {
     if !sets::has(set, o) {
         return start;
     }
     let bound = (start.cost + opening[o] as u64) as u32;
-    if lower_count(more, 32 * o, costs, bound) == 0 {
+    if lower_count(kept, MORE + 32 * o, costs, bound) == 0 {
         return start;
     }
     let mut b = start;
     let mut i = 0;
     while i < m {
-        b = try_swap(opening, service, m, n, set, o, i, b, costs, more, loss);
+        b = try_swap(opening, service, m, n, set, o, i, b, costs, kept);
         i += 1;
     }
     b
@@ -240,16 +236,15 @@ fn best_swap(
     set: u32,
     start: Priced,
     costs: &[u32],
-    more: &[u32],
-    loss: &[u32],
+    kept: &[u32],
 ) -> Priced
-    requires { ⌜ MovePrices m n (now opening) (now service) set (now costs) (now more) (now loss) × Ready m n (now opening) (now service) start × (start .cost ≤ 2000000000) ⌝ }
+    requires { ⌜ MovePrices m n (now opening) (now service) set (now costs) (now kept) × Ready m n (now opening) (now service) start × (start .cost ≤ 2000000000) ⌝ }
     ensures { λ r. ⌜ r ≡ priced (tableCost m n (now (opening .entry)) (now (service .entry))) (best (tableCost m n (now (opening .entry)) (now (service .entry))) (start .set) (swaps m set)) ⌝ }
 {
     let mut b = start;
     let mut o = 0;
     while o < m {
-        b = best_swap_out(opening, service, m, n, set, o, b, costs, more, loss);
+        b = best_swap_out(opening, service, m, n, set, o, b, costs, kept);
         o += 1;
     }
     b
@@ -264,29 +259,17 @@ pub(crate) fn best_move(
     n: usize,
     b: Priced,
     costs: &[u32],
-    more: &[u32],
-    loss: &[u32],
+    kept: &[u32],
 ) -> Priced
-    requires { ⌜ MovePrices m n (now opening) (now service) (b .set) (now costs) (now more) (now loss) × Ready m n (now opening) (now service) b ⌝ }
+    requires { ⌜ MovePrices m n (now opening) (now service) (b .set) (now costs) (now kept) × Ready m n (now opening) (now service) b ⌝ }
     ensures { λ r. ⌜ r ≡ priced (tableCost m n (now (opening .entry)) (now (service .entry))) (next (tableCost m n (now (opening .entry)) (now (service .entry))) (neighboursBy neighbourhood m) (b .set)) ⌝ }
 {
     match neighbourhood {
         Neighbourhood::AddDropSwap => {
-            let added = best_add(opening, service, m, n, b.set, b, costs, more, loss);
-            let dropped = best_drop(
-                opening,
-                service,
-                m,
-                n,
-                b.set,
-                b.cost,
-                added,
-                costs,
-                more,
-                loss,
-            );
-            best_swap(opening, service, m, n, b.set, dropped, costs, more, loss)
+            let added = best_add(opening, service, m, n, b.set, b, costs, kept);
+            let dropped = best_drop(opening, service, m, n, b.set, b.cost, added, costs, kept);
+            best_swap(opening, service, m, n, b.set, dropped, costs, kept)
         }
-        Neighbourhood::Swap => best_swap(opening, service, m, n, b.set, b, costs, more, loss),
+        Neighbourhood::Swap => best_swap(opening, service, m, n, b.set, b, costs, kept),
     }
 }

@@ -15,6 +15,17 @@ pub struct Near {
 // Stands for a facility that is missing: the highest cost and the last facility.
 pub(crate) const FARTHEST: u32 = 32000031;
 
+// Where the stretches of the kept table begin, after the nearest facilities (specs/Prices.antt), and its length.
+pub(crate) const SECONDS: usize = 128;
+
+pub(crate) const ADDED: usize = 256;
+
+pub(crate) const LOSS: usize = 288;
+
+pub(crate) const MORE: usize = 320;
+
+pub(crate) const KEPT: usize = 1344;
+
 const MOST_FACILITIES: usize = 32;
 
 // The two nearest of x and of two.

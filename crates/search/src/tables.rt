@@ -1,8 +1,8 @@
 // The search's tables: amounts of the sheet in flat arrays, so that the search reads no record twice.
 ghost use Prim.Native.Nat.{_+_, _*_, _≤_};
 ghost use lib.ListN.{length};
-ghost use Rattle.search.specs.Tables.{Holds, Zeros};
-ghost use Rattle.search.specs.Amounts.{Behind};
+ghost use Rattle.search.specs.Tables.{Holds};
+ghost use Rattle.search.specs.Amounts.{Behind, Front};
 use sheet::Record;
 
 // Fills the front of a table with the amounts of so many records, from one on.
@@ -19,15 +19,15 @@ pub(crate) fn fill(sheet: &[u8], from: usize, count: usize, table: &mut [u32])
     }
 }
 
-// Fills the front of a table with so many zeros.
-pub(crate) fn clear(count: usize, table: &mut [u32])
+// Puts one number in the first so many places of a table.
+pub(crate) fn put_front(count: usize, x: u32, table: &mut [u32])
     requires { ⌜ count ≤ length (now table) ⌝ }
-    ensures front { λ _. ⌜ Zeros count (now (table .exit)) ⌝ }
+    ensures front { λ _. ⌜ Front count x (now (table .exit)) ⌝ }
     ensures behind { λ _. ⌜ Behind count (now (table .entry)) (now (table .exit)) ⌝ }
 {
     let mut i = 0;
     while i < count {
-        table[i] = 0;
+        table[i] = x;
         i += 1;
     }
 }

@@ -1,7 +1,7 @@
 // The haul sheet: eight-byte records, read where they lie.
 //
-// `read` asks questions 1 to 6 of document 01, `farm_hauls` gives one farm's stretch of the sheet. Every call is total: it
-// takes any bytes at all. `Record` is the one place that knows the bytes of a record.
+// `read` asks questions 1 to 6 of document 01, `form_and_amounts_of` questions 1 to 5 alone, `farm_hauls` gives one farm's stretch
+// of the sheet. Every call is total: it takes any bytes at all. `Record` is the one place that knows the bytes of a record.
 mod amounts;
 mod form;
 mod four_point;
@@ -9,6 +9,7 @@ mod one_pass;
 mod record;
 
 pub use form::MOST_BYTES;
+pub use one_pass::form_and_amounts_of;
 pub use record::KIND_HAUL;
 pub use record::KIND_YARD;
 pub use record::Record;

@@ -45,9 +45,11 @@ impl<'a> Search<'a> {
         let yards = Yards::of(set);
         let mut near = [Near::NONE; MOST_FARMS];
         let mut prices = Prices::none(hauls);
-        for (row, near) in hauls.rows().iter().zip(&mut near) {
-            *near = Near::of(row, &yards);
-            prices.put(row, *near);
+        for (rows, near) in hauls.rows_by_four().iter().zip(near.as_chunks_mut().0) {
+            *near = Near::of_four(rows, &yards);
+        }
+        for (row, &near) in hauls.rows().iter().zip(&near) {
+            prices.put(row, near);
         }
         Search { hauls, set, yards, moves: 0, near, prices }
     }
@@ -59,24 +61,55 @@ impl<'a> Search<'a> {
         self.set = next;
         self.yards = Yards::of(next);
         self.moves += 1;
-        for (row, near) in self.hauls.rows().iter().zip(&mut self.near) {
-            let mut now = *near;
+        let yard = came.trailing_zeros() as usize % MOST_YARDS;
+        let touched = match (came, went) {
+            (_, 0) => self.farms(|row, near| near.changes_with(row, yard)),
+            (0, _) => self.farms(|_, near| near.goes_to(went)),
+            _ => self.farms(|row, near| near.changes_with(row, yard) | near.goes_to(went)),
+        };
+        for farm in touched.iter() {
+            let row = &self.hauls.rows()[farm];
+            let before = self.near[farm];
+            let mut now = before;
             if came != 0 {
-                now = now.with(row, came.trailing_zeros() as usize);
+                now = now.with(row, yard);
             }
             if now.goes_to(went) {
-                now = Near::of(row, &self.yards);
+                now = now.without(went, row, &self.yards);
             }
-            if now != *near {
-                self.prices.change(row, *near, now);
-                *near = now;
-            }
+            self.prices.change(row, before, now);
+            self.near[farm] = now;
         }
+    }
+
+    /// The farms that pass a test. Each is written to the list, and counted where it passes: a branch on the test would
+    /// often be guessed wrong.
+    #[inline(always)]
+    fn farms(&self, test: impl Fn(&Amounts, Near) -> bool) -> Farms {
+        let mut farms = Farms { list: [0; MOST_FARMS], count: 0 };
+        for (farm, (row, &near)) in self.hauls.rows().iter().zip(&self.near).enumerate() {
+            farms.list[farms.count % MOST_FARMS] = farm as u8;
+            farms.count += usize::from(test(row, near));
+        }
+        farms
     }
 
     /// Writes the plan. Its total counts these fees.
     fn write(&self, fees: &Amounts, area: &mut [u8]) -> Written {
         let served = self.near.iter().map(|near| near.first);
         area::write(self.hauls, &self.yards, served, fees, self.moves, area)
+    }
+}
+
+/// Some farms, by number.
+struct Farms {
+    list: [u8; MOST_FARMS],
+    count: usize,
+}
+
+impl Farms {
+    /// The remainder changes nothing, as with yards.
+    fn iter(&self) -> impl Iterator<Item = usize> + '_ {
+        self.list[..self.count].iter().map(|&farm| usize::from(farm) % MOST_FARMS)
     }
 }

@@ -28,6 +28,11 @@ impl Hauls {
         &self.rows[..self.farms]
     }
 
+    /// The same, four farms at a time. Rows of zeros fill up the last four.
+    pub fn rows_by_four(&self) -> &[[Amounts; 4]] {
+        &self.rows.as_chunks().0[..self.farms.div_ceil(4)]
+    }
+
     /// The haul cost of each yard by itself.
     pub fn alone(&self) -> Amounts {
         let mut costs = [0; MOST_YARDS];
@@ -41,15 +46,21 @@ impl Hauls {
 
     /// Asks questions 1 to 6, and fills a table that has nothing yet.
     pub fn read(&mut self, sheet: &[u8]) -> Answer<()> {
+        self.read_without_rule(sheet)?;
+        if !rule::four_points(self) {
+            return Err(6);
+        }
+        Ok(())
+    }
+
+    /// The same for questions 1 to 5.
+    pub fn read_without_rule(&mut self, sheet: &[u8]) -> Answer<()> {
         if !sheet.len().is_multiple_of(RECORD) || !(SHORTEST_SHEET..=LONGEST_SHEET).contains(&sheet.len()) {
             return Err(1);
         }
         let records = sheet.as_chunks().0;
         if !self.fill(records) {
             return Err(first_no(records));
-        }
-        if !rule::four_points(self) {
-            return Err(6);
         }
         Ok(())
     }
@@ -119,10 +130,13 @@ fn first_no(records: &[Record]) -> u8 {
     if !(1..=MOST_YARDS).contains(&yards) || !numbered || hauls.iter().any(|record| record[0] == YARD) {
         return 3;
     }
-    let in_place =
-        |(at, record): (usize, &Record)| usize::from(record[1]) == at % yards && usize::from(record[2]) == at / yards;
     let full_farms = hauls.len().is_multiple_of(yards) && (1..=MOST_FARMS).contains(&(hauls.len() / yards));
-    if !full_farms || !hauls.iter().enumerate().all(in_place) {
+    let in_place = |(farm, records): (usize, &[Record])| {
+        let numbered =
+            |(yard, record): (usize, &Record)| usize::from(record[1]) == yard && usize::from(record[2]) == farm;
+        records.iter().enumerate().all(numbered)
+    };
+    if !full_farms || !hauls.chunks_exact(yards).enumerate().all(in_place) {
         return 4;
     }
     5

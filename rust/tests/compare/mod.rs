@@ -1,15 +1,14 @@
-//! Every call on one sheet: the proved library against the other implementations, area and all, byte for byte.
+//! Every call on one sheet: the proved library against the other implementations, area and all, byte for byte. `fast` is among
+//! them so that the benchmark's times are those of the same answers.
 mod tally;
 
-use planner::calls::{Calls, PlanCall, FAST, LIBRARY, LITERAL};
+use planner::calls::{Calls, PlanCall, ALL, WITHOUT_RULE};
 use planner::format::{least_area, MOST_AREA, MOST_FARMS, MOST_YARDS, RECORD};
 use planner::random::Random;
 use planner::samples::Sample;
 use planner::{library, literal, Answer, Counts};
 pub use tally::{Name, Tally};
 
-/// `fast` is among them so that the benchmark's times are those of the same answers.
-const OTHERS: [Calls; 2] = [LITERAL, FAST];
 /// Sheets with more records than this get a choice of sets, counts, areas and bytes only.
 const MANY_RECORDS: usize = 300;
 const CHOICE: usize = 3;
@@ -20,30 +19,48 @@ const LONGEST_PRINTED: usize = 1_024;
 
 /// One sheet under comparison.
 struct Comparison<'a> {
+    library: &'a Calls,
+    others: &'a [Calls],
     sample: &'a Sample,
+    /// The sheet before any call.
+    before: Vec<u8>,
     seed: u64,
     random: Random,
     tally: &'a mut Tally,
 }
 
 /// Makes every call on the sheet, with sets, counts, areas and their bytes drawn from the seed.
+#[allow(dead_code)] // a test makes the calls with question 6 or without it
 pub fn every_call(sample: &Sample, seed: u64, tally: &mut Tally) {
-    let before = sample.sheet.clone();
-    let mut comparison = Comparison { sample, seed, random: Random::new(!seed), tally };
-    let reading = comparison.reading();
+    let mut comparison = Comparison::new(&ALL, sample, seed, tally);
     comparison.stretches();
-    match reading {
-        Ok(counts) => comparison.plans(counts),
-        Err(_) => comparison.refusals(),
-    }
-    assert!(before == sample.sheet, "seed {seed}, {}: a call wrote to the sheet", sample.name);
+    comparison.reading_and_plans();
 }
 
-impl Comparison<'_> {
+/// The same without question 6. A farm's stretch never asks it.
+#[allow(dead_code)]
+pub fn every_call_without_rule(sample: &Sample, seed: u64, tally: &mut Tally) {
+    Comparison::new(&WITHOUT_RULE, sample, seed, tally).reading_and_plans();
+}
+
+impl<'a> Comparison<'a> {
+    fn new(three: &'a [Calls; 3], sample: &'a Sample, seed: u64, tally: &'a mut Tally) -> Comparison<'a> {
+        let [library, others @ ..] = three;
+        Comparison { library, others, sample, before: sample.sheet.clone(), seed, random: Random::new(!seed), tally }
+    }
+
+    fn reading_and_plans(&mut self) {
+        match self.reading() {
+            Ok(counts) => self.plans(counts),
+            Err(_) => self.refusals(),
+        }
+        assert!(self.before == self.sample.sheet, "a call wrote to the sheet; {}", self.sheet());
+    }
+
     fn reading(&mut self) -> Answer<Counts> {
         let sheet = &self.sample.sheet;
-        let answer = library::read(sheet);
-        for calls in &OTHERS {
+        let answer = (self.library.read)(sheet);
+        for calls in self.others {
             let (name, other) = (calls.name, (calls.read)(sheet));
             assert!(answer == other, "read: library {answer:?}, {name} {other:?}; {}", self.sheet());
         }
@@ -128,9 +145,9 @@ impl Comparison<'_> {
         let pattern: Vec<u8> = (0..length + 2 * MARGIN).map(|_| self.random.draw() as u8).collect();
         let lent = MARGIN..MARGIN + length;
         let mut area = pattern.clone();
-        let answer = call.put_to(&LIBRARY, &self.sample.sheet, &mut area[lent.clone()]);
+        let answer = call.put_to(self.library, &self.sample.sheet, &mut area[lent.clone()]);
         let ours = || format!("{call:?} with an area of {length} bytes: library {answer:?}");
-        for calls in &OTHERS {
+        for calls in self.others {
             let mut other_area = pattern.clone();
             let other = call.put_to(calls, &self.sample.sheet, &mut other_area[lent.clone()]);
             let (name, difference) = (calls.name, first_difference(&area, &other_area));
@@ -144,6 +161,7 @@ impl Comparison<'_> {
         let difference = first_difference(&area, &expected);
         assert!(difference.is_none(), "{}; not as before the call: {difference:?}; {}", ours(), self.sheet());
         self.tally.answer(Name::of(call), answer.err());
+        self.tally.moves += answer.map_or(0, |written| written.moves.into());
         written
     }
 

@@ -25,6 +25,8 @@ const NAMES: [Name; 4] = [Name::Read, Name::Price, Name::OpenPlan, Name::Limited
 pub struct Tally {
     /// For each call, how often it was accepted (place 0) and refused with each number.
     answers: [[u64; 10]; 4],
+    /// Of all accepted calls.
+    pub moves: u64,
     pub whole_stretches: u64,
     pub empty_stretches: u64,
     pub bytes: u64,
@@ -59,7 +61,8 @@ impl Tally {
             let [accepted, refused @ ..] = self.answers[name as usize];
             println!("{:>12} {accepted:>7} {refused:?}", format!("{name:?}"));
         }
-        let Tally { whole_stretches, empty_stretches, bytes, .. } = self;
+        let Tally { moves, whole_stretches, empty_stretches, bytes, .. } = self;
+        println!("{moves} moves");
         println!("{whole_stretches} whole stretches, {empty_stretches} empty ones, {bytes} bytes of them");
     }
 }

@@ -1,5 +1,5 @@
 //! The calls that are timed, put to each implementation.
-use planner::calls::{Calls, PlanCall, ALL, FAST, LIBRARY};
+use planner::calls::{Calls, PlanCall, ALL, FAST, WITHOUT_RULE};
 use planner::format::MOST_AREA;
 use planner::samples::Sample;
 use planner::{fast, literal, Answer, Counts, Written};
@@ -62,19 +62,34 @@ pub fn fast_after_reading(call: PlanCall, hauls: &fast::Hauls, area: &mut [u8]) 
     }
 }
 
-/// The three implementations must accept the sheet, and give the same outcome and area.
+/// The three implementations must accept the sheet, and give the same outcome and area, with question 6 and without it.
 pub fn compare(call: Call, input: &Sample) -> Result<(), String> {
+    let name = format!("{} of {}", call.name(), input.name);
+    let outcome = the_same(call, input, ALL.iter().chain(&WITHOUT_RULE)).map_err(|fault| format!("{name}: {fault}"))?;
+    match outcome {
+        Outcome::Counts(Err(number)) | Outcome::Written(Err(number)) => Err(format!("{name} is refused: {number}")),
+        _ => Ok(()),
+    }
+}
+
+/// The three implementations without question 6 must refuse to read the sheet, with the same number.
+pub fn compare_refused(input: &Sample) -> Result<(), String> {
+    match the_same(Call::Read, input, WITHOUT_RULE.iter()) {
+        Ok(Outcome::Counts(Err(_))) => Ok(()),
+        other => Err(format!("read of {}: {other:?}", input.name)),
+    }
+}
+
+/// The outcome that all of these give, with the same area.
+fn the_same<'a>(call: Call, input: &Sample, mut list: impl Iterator<Item = &'a Calls>) -> Result<Outcome, String> {
     let given = |calls: &Calls| {
         let mut area = [0xA5; MOST_AREA];
         (call.put_to(calls, &input.sheet, &mut area), area)
     };
-    let library = given(&LIBRARY);
-    if let Outcome::Counts(Err(number)) | Outcome::Written(Err(number)) = library.0 {
-        return Err(format!("{} of {} is refused: {number}", call.name(), input.name));
-    }
-    match ALL.iter().find(|calls| given(calls) != library) {
-        Some(other) => Err(format!("{} of {}: library and {} differ", call.name(), input.name, other.name)),
-        None => Ok(()),
+    let first = list.next().map(given).ok_or("nothing to compare")?;
+    match list.find(|calls| given(calls) != first) {
+        Some(other) => Err(format!("library and {} differ", other.name)),
+        None => Ok(first.0),
     }
 }
 

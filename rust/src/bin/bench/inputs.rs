@@ -1,5 +1,5 @@
 //! The sheets that the calls are timed on.
-use planner::format::{MOST_FARMS, MOST_YARDS};
+use planner::format::{MOST_FARMS, MOST_YARDS, RECORD};
 use planner::random::Random;
 use planner::samples::{self, Sample};
 
@@ -21,4 +21,14 @@ pub fn full_sheets() -> Vec<Sample> {
 fn full_sheet(seed: u64, highest_fee: u32) -> Sample {
     let table = samples::plane(&mut Random::new(seed), MOST_YARDS, MOST_FARMS, SPAN, highest_fee);
     Sample { name: format!("seed {seed}, fees up to {highest_fee}"), sheet: table.sheet(), reading: None }
+}
+
+/// The sheet with one byte changed in its last record.
+pub fn refused(input: &Sample) -> [Sample; 2] {
+    let last = input.sheet.len() - RECORD;
+    [("byte 3 of the last record is wrong", last + 3), ("the last amount is too high", last + 7)].map(|(name, at)| {
+        let mut sheet = input.sheet.clone();
+        sheet[at] = 1;
+        Sample { name: name.to_string(), sheet, reading: None }
+    })
 }

@@ -5,7 +5,7 @@ mod inputs;
 mod printing;
 mod timing;
 
-use calls::{compare, CALLS, SEARCHES};
+use calls::{compare, compare_refused, CALLS, SEARCHES};
 use planner::samples;
 use std::process::ExitCode;
 
@@ -26,10 +26,14 @@ fn bench() -> Result<(), String> {
         CALLS.iter().try_for_each(|&call| compare(call, input))?;
     }
     drops.iter().try_for_each(|input| compare(SEARCHES[0], input))?;
+    let refused = inputs::refused(&inputs[0]);
+    refused.iter().try_for_each(compare_refused)?;
     printing::print_inputs(&inputs);
-    let sheets: Vec<_> = inputs.iter().map(|input| timing::time(CALLS, input)).collect();
+    let sheets = timing::time(CALLS, &inputs, timing::ROUNDS);
     printing::print_calls(&sheets);
+    printing::print_without_rule(&sheets);
     printing::print_without_reading(&sheets);
     printing::print_drops(&drops);
+    printing::print_refused(&refused);
     Ok(())
 }

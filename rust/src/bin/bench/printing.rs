@@ -1,9 +1,12 @@
 //! The tables that the benchmark prints.
 use crate::calls::{plan, Call, CALLS, SEARCHES};
 use crate::inputs::SPAN;
-use crate::timing::{time, Three, Times, LEAST_IN_A_TURN, ROUNDS};
+use crate::timing::{time, time_reading, Three, Times, LEAST_IN_A_TURN, MORE_ROUNDS, ROUNDS};
 use planner::format::{MOST_FARMS, MOST_YARDS, RECORD};
 use planner::samples::Sample;
+
+/// The times of each call on one sheet.
+pub type OfSheet = [Times; CALLS.len()];
 
 pub fn print_inputs(inputs: &[Sample]) {
     println!("Sheets of `samples::plane`: {MOST_YARDS} yards and {MOST_FARMS} farms in a square of side {SPAN}.");
@@ -16,38 +19,66 @@ pub fn print_inputs(inputs: &[Sample]) {
     }
 }
 
-pub fn print_calls(sheets: &[[Times; CALLS.len()]]) {
+pub fn print_calls(sheets: &[OfSheet]) {
     println!("\nMicroseconds of a call: median over the sheets. Ratios: median (lowest to highest).");
     println!("Each time is the least of {} calls or more.", ROUNDS * LEAST_IN_A_TURN);
     println!("Ours: the proved library. Literal: document 01 to the letter in Rust. Fast: plain Rust made for speed.");
     print_heading();
     for (at, call) in CALLS.iter().enumerate() {
-        let times: Vec<Three> = sheets.iter().map(|sheet| sheet[at].whole).collect();
-        print_line(&call.name(), &times);
+        print_line(&call.name(), &each(sheets, |sheet| sheet[at].whole));
+    }
+}
+
+pub fn print_without_rule(sheets: &[OfSheet]) {
+    println!("\nWithout question 6: the same calls, in which it is not asked.");
+    print_heading();
+    for (at, call) in CALLS.iter().enumerate() {
+        print_line(&call.name(), &each(sheets, |sheet| sheet[at].without_rule));
     }
 }
 
 /// The first call is reading. Pricing is left out: beside reading it is too short for a difference of two times to tell.
-pub fn print_without_reading(sheets: &[[Times; CALLS.len()]]) {
-    println!("\nThe searches without reading. Literal and fast: the call on a sheet already read.");
-    println!("Ours: the time of the call less the time of `read` on the same sheet.");
+pub fn print_without_reading(sheets: &[OfSheet]) {
+    println!("\nWithout reading: the searches. Literal and fast: the call on a sheet already read.");
+    println!("Ours: the call without question 6, less `read` without question 6 on the same sheet.");
     print_heading();
     for (at, call) in CALLS.iter().enumerate().skip(CALLS.len() - SEARCHES.len()) {
-        let times: Vec<Three> = sheets.iter().map(|sheet| without_reading(sheet[at], sheet[0])).collect();
-        print_line(&call.name(), &times);
+        print_line(&call.name(), &each(sheets, |sheet| without_reading(sheet[at], sheet[0])));
     }
 }
 
 fn without_reading(call: Times, read: Times) -> Three {
-    [call.whole[0] - read.whole[0], call.literal_after_reading, call.fast_after_reading]
+    let [_, literal, fast] = call.after_reading;
+    [call.without_rule[0] - read.without_rule[0], literal, fast]
 }
 
 pub fn print_drops(drops: &[Sample]) {
-    println!("\nOpen plan of the kept sheets that drop a yard, microseconds:");
+    let times = time([SEARCHES[0]], drops, MORE_ROUNDS);
+    println!("\nOpen plan of the kept sheets that drop a yard:");
+    print_each(drops, &each(&times, |[times]| times.whole));
+    println!("\nThe same without question 6:");
+    print_each(drops, &each(&times, |[times]| times.without_rule));
+}
+
+pub fn print_refused(refused: &[Sample]) {
+    println!("\nReading refused sheets without question 6:");
     print_heading();
-    for input in drops {
-        print_line(&input.name, &time([SEARCHES[0]], input).map(|times| times.whole));
+    for (input, times) in refused.iter().zip(time_reading(refused, MORE_ROUNDS)) {
+        print_line(&input.name, &[times]);
     }
+}
+
+fn each<T>(list: &[T], times: impl Fn(&T) -> Three) -> Vec<Three> {
+    list.iter().map(times).collect()
+}
+
+/// A line for each sheet, and one for all.
+fn print_each(inputs: &[Sample], times: &[Three]) {
+    print_heading();
+    for (input, &times) in inputs.iter().zip(times) {
+        print_line(&input.name, &[times]);
+    }
+    print_line("median (lowest to highest)", times);
 }
 
 fn print_heading() {

@@ -1,4 +1,4 @@
--- `clients::begin` meets its contract: with every client counted, the tables are those of the set.
+-- `clients::begin` meets its contract: with every client counted, the table is that of the set.
 use Rattle.search.proofs.ClientLaws.{listed-is}
 use borrow.Author.Needs.{needs}
 use Rattle.search.proofs.clients.begin.Statement.{statement}
@@ -11,24 +11,12 @@ slice-aggregate-begin-clients : tie.Need-slice-aggregate-begin-clients
 slice-aggregate-begin-clients c = search needs
 
 begin-clients-requires : tie.Need-begin-clients-requires
-begin-clients-requires c κs = let members = c .before .before .before .before .before .before .before .members-of in
-    let start = c .before .before .before .before .before .before .before .before .before .before .before .before .before .before in
+begin-clients-requires c κs = let members = c .before .before .before .members-of in
+    let start = c .before .before .before .before .before .before in
     (start .pre .0, start .pre .1, start .pre .2, listed-is (start .args .set) (members .result) (members .ensures))
 
 same-length : tie.Need-same-length
 same-length c = search needs
-
-same-length-2 : tie.Need-same-length-2
-same-length-2 c = search needs
-
-same-length-3 : tie.Need-same-length-3
-same-length-3 c = search needs
-
-same-length-4 : tie.Need-same-length-4
-same-length-4 c = search needs
-
-same-length-5 : tie.Need-same-length-5
-same-length-5 c = search needs
 
 returns : tie.Need-returns
 returns c = search needs
@@ -41,8 +29,4 @@ begin-spec =
     slice-aggregate-begin-clients
     begin-clients-requires
     same-length
-    same-length-2
-    same-length-3
-    same-length-4
-    same-length-5
     returns)

@@ -1,4 +1,4 @@
--- `clients::move_to` meets its contract: with every client moved, the tables are those of the next set.
+-- `clients::move_to` meets its contract: with every client moved, the table is that of the next set.
 use Rattle.search.proofs.ClientLaws.{none-moved, listed-is}
 use borrow.Author.Needs.{needs}
 use Rattle.search.proofs.clients.move_to.Statement.{statement}
@@ -17,13 +17,13 @@ slice-aggregate-move-clients : tie.Need-slice-aggregate-move-clients
 slice-aggregate-move-clients c = search needs
 
 move-clients-requires : tie.Need-move-clients-requires
-move-clients-requires c κs = let members = c .before .before .before .before .before .before .before .members-of in
-    let start = c .before .before .before .before .before .before .before .before .before .before .before .before .before .before .before .before in
+move-clients-requires c κs = let members = c .before .before .before .members-of in
+    let start = c .before .before .before .before .before .before .before .before in
     let a = start .args in
     let here = start .pre .0 in
-    let moved = rw (← c .before .before .before .before .before .before .before .before .before .newcomer .ensures, ← c .before .before .before .before .before .before .before .before .newcomer2 .ensures) at (start .pre .1) in (
-      here .kept,
-      none-moved (a .m) (a .n) (a .service .now) (a .firsts .now) (a .seconds .now) (a .set) (a .next) (here .near),
+    let moved = rw (← c .before .before .before .before .before .newcomer .ensures, ← c .before .before .before .before .newcomer2 .ensures) at (start .pre .1) in (
+      here .sums,
+      none-moved (a .m) (a .n) (a .service .now) (a .kept .now) (a .set) (a .next) (here .near),
       moved,
       start .pre .2,
       listed-is (a .next) (members .result) (members .ensures),
@@ -31,18 +31,6 @@ move-clients-requires c κs = let members = c .before .before .before .before .b
 
 same-length : tie.Need-same-length
 same-length c = search needs
-
-same-length-2 : tie.Need-same-length-2
-same-length-2 c = search needs
-
-same-length-3 : tie.Need-same-length-3
-same-length-3 c = search needs
-
-same-length-4 : tie.Need-same-length-4
-same-length-4 c = search needs
-
-same-length-5 : tie.Need-same-length-5
-same-length-5 c = search needs
 
 returns : tie.Need-returns
 returns c = search needs
@@ -57,8 +45,4 @@ move-to-spec =
     slice-aggregate-move-clients
     move-clients-requires
     same-length
-    same-length-2
-    same-length-3
-    same-length-4
-    same-length-5
     returns)

@@ -10,10 +10,10 @@ use Rattle.search.proofs.cost.add_up.Statement.{statement}
 use Rattle.search.proofs.cost.add_up.Tie as tie
 
 abbrev Inv-loop : tie.InvT-loop
-Inv-loop fees opening added costs₀ i₀ costs i = (i ≤ 32) × (length costs ≡ length costs₀) × Added i fees opening added costs
+Inv-loop fees opening kept costs₀ i₀ costs i = (i ≤ 32) × (length costs ≡ length costs₀) × Added i fees opening kept costs
 
 abbrev μ-loop : tie.MeasureT-loop
-μ-loop fees opening added costs₀ i₀ costs i = 32 - i
+μ-loop fees opening kept costs₀ i₀ costs i = 32 - i
 
 loop-holds : tie.Need-loop-holds Inv-loop μ-loop
 loop-holds c = (omega arith, refl, λ k l. absurd (not-suc-le-zero l))
@@ -27,14 +27,17 @@ shared-slice-read-costs c = omega (arith, c .before .before .before .pre .openin
 add-costs : tie.Need-add-costs Inv-loop μ-loop
 add-costs c = omega (arith, c .before .before .before .pre .small (c .before .before .loop .i) (omega arith))
 
+add-costs-2 : tie.Need-add-costs-2 Inv-loop μ-loop
+add-costs-2 c = omega arith
+
 mul-costs-2 : tie.Need-mul-costs-2 Inv-loop μ-loop
 mul-costs-2 c = omega arith
 
 shared-slice-read-costs-2 : tie.Need-shared-slice-read-costs-2 Inv-loop μ-loop
-shared-slice-read-costs-2 c = omega (arith, c .before .before .before .before .pre .added-room)
+shared-slice-read-costs-2 c = omega (arith, c .before .before .before .before .pre .kept-room)
 
-add-costs-2 : tie.Need-add-costs-2 Inv-loop μ-loop
-add-costs-2 c = omega (arith, c .before .before .before .before .pre .small (c .before .before .before .loop .i) (omega arith))
+add-costs-3 : tie.Need-add-costs-3 Inv-loop μ-loop
+add-costs-3 c = omega (arith, c .before .before .before .before .pre .small (c .before .before .before .loop .i) (omega arith))
 
 mul-costs-3 : tie.Need-mul-costs-3 Inv-loop μ-loop
 mul-costs-3 c = omega arith
@@ -53,7 +56,7 @@ loop-again c = let a = c .before .before .before .before .args in
     let l = c .before .before .before .loop in (
       omega arith,
       simp length-set (l .inv .1),
-      filled-more (λ k. a .fees + getD (a .opening .now) k 0 + getD (a .added .now) k 0) (l .i) _ (l .costs)
+      filled-more (λ k. a .fees + getD (a .opening .now) k 0 + getD (a .kept .now) (256 + k) 0) (l .i) _ (l .costs)
           (omega (arith, c .before .before .before .before .pre .costs-room, l .inv .1)) refl (l .inv .2),
     )
 
@@ -73,9 +76,10 @@ add-up-spec =
     mul-costs
     shared-slice-read-costs
     add-costs
+    add-costs-2
     mul-costs-2
     shared-slice-read-costs-2
-    add-costs-2
+    add-costs-3
     mul-costs-3
     slice-write-costs
     add-i

@@ -8,10 +8,10 @@ use Rattle.search.proofs.cost.nearest_costs.Statement.{statement}
 use Rattle.search.proofs.cost.nearest_costs.Tie as tie
 
 abbrev Inv-loop : tie.InvT-loop
-Inv-loop firsts n total₀ j₀ total j = (j ≤ n) × Summed (λ j. getD firsts j 0 / 32) total j
+Inv-loop kept n total₀ j₀ total j = (j ≤ n) × Summed (λ j. getD kept j 0 / 32) total j
 
 abbrev μ-loop : tie.MeasureT-loop
-μ-loop firsts n total₀ j₀ total j = n - j
+μ-loop kept n total₀ j₀ total j = n - j
 
 loop-holds : tie.Need-loop-holds Inv-loop μ-loop
 loop-holds c = (omega arith, summed-none _)

@@ -1,4 +1,5 @@
 -- `descent::alone_cost` meets its contract.
+use Prim.Native.Nat.{_+_}
 use native.Mathlib.Omega.{arith}
 use borrow.Author.Needs.{needs}
 use Rattle.search.proofs.descent.alone_cost.Statement.{statement}
@@ -13,6 +14,9 @@ shared-slice-read-result c = search needs
 cast-result : tie.Need-cast-result
 cast-result c = omega (arith, c .shared-slice-known .given (c .before .args .i))
 
+add-result : tie.Need-add-result
+add-result c = search needs
+
 mul-result-2 : tie.Need-mul-result-2
 mul-result-2 c = search needs
 
@@ -20,10 +24,10 @@ shared-slice-read-result-2 : tie.Need-shared-slice-read-result-2
 shared-slice-read-result-2 c = search needs
 
 cast-result-2 : tie.Need-cast-result-2
-cast-result-2 c = omega (arith, c .shared-slice-known2 .given (c .before .before .args .i))
+cast-result-2 c = omega (arith, c .shared-slice-known2 .given (256 + c .before .before .args .i))
 
-add-result : tie.Need-add-result
-add-result c = let a = c .before .before .args in omega (arith, c .before .shared-slice-known .given (a .i), c .shared-slice-known2 .given (a .i))
+add-result-2 : tie.Need-add-result-2
+add-result-2 c = let a = c .before .before .args in omega (arith, c .before .shared-slice-known .given (a .i), c .shared-slice-known2 .given (256 + a .i))
 
 returns : tie.Need-returns
 returns c = search needs
@@ -35,8 +39,9 @@ alone-cost-spec =
     mul-result
     shared-slice-read-result
     cast-result
+    add-result
     mul-result-2
     shared-slice-read-result-2
     cast-result-2
-    add-result
+    add-result-2
     returns)

@@ -10,10 +10,10 @@ use Rattle.search.proofs.descent.cheapest_yard.Statement.{statement}
 use Rattle.search.proofs.descent.cheapest_yard.Tie as tie
 
 abbrev Inv-loop : tie.InvT-loop
-Inv-loop opening service m n sums b₀ i₀ b i = (1 ≤ i) × (i ≤ m) × Cheapest (tableCost m n opening service) b i
+Inv-loop opening service m n kept b₀ i₀ b i = (1 ≤ i) × (i ≤ m) × Cheapest (tableCost m n opening service) b i
 
 abbrev μ-loop : tie.MeasureT-loop
-μ-loop opening service m n sums b₀ i₀ b i = m - i
+μ-loop opening service m n kept b₀ i₀ b i = m - i
 
 alone-cost-requires : tie.Need-alone-cost-requires Inv-loop μ-loop
 alone-cost-requires c κs = let pre = c .before .before .before .pre in (omega (arith, pre .1 .room), omega (arith, pre .3))
@@ -22,7 +22,7 @@ loop-holds : tie.Need-loop-holds Inv-loop μ-loop
 loop-holds c = let start = c .before .before .before .before in
     let a = start .args in
     let pre = start .pre in
-    (omega arith, pre .2, alone-first (a .m) (a .n) (a .opening .now) (a .service .now) (a .sums .now) (pre .0) (pre .4) _ (omega (arith, pre .2)) (c .alone-cost .ensures))
+    (omega arith, pre .2, alone-first (a .m) (a .n) (a .opening .now) (a .service .now) (a .kept .now) (pre .0) (pre .4) _ (omega (arith, pre .2)) (c .alone-cost .ensures))
 
 added-requires : tie.Need-added-requires Inv-loop μ-loop
 added-requires c κs = search needs
@@ -47,7 +47,7 @@ loop-again c = let l = c .before .before .before .before .loop in
     let pre = start .pre in (
       omega arith,
       omega arith,
-      alone-more (a .m) (a .n) (a .opening .now) (a .service .now) (a .sums .now) (pre .0) (pre .4) (l .i) _ _ (l .b) _ (l .inv .0) (omega arith) (l .inv .2)
+      alone-more (a .m) (a .n) (a .opening .now) (a .service .now) (a .kept .now) (pre .0) (pre .4) (l .i) _ _ (l .b) _ (l .inv .0) (omega arith) (l .inv .2)
           (c .before .before .added .ensures) (c .before .alone-cost2 .ensures) (c .better-of .ensures),
     )
 

@@ -1,8 +1,5 @@
 -- `descent::choose` meets its contract: where the search stands, the tables price every move.
-use mathlib.Core.Path.{ap, _∙_}
-use Prim.Native.Nat.{ℕ, _+_}
 use native.Mathlib.Omega.{arith}
-use lib.ListN.{getD}
 use Rattle.search.proofs.PriceLaws.{opening-few, adding, prices}
 use borrow.Author.Needs.{needs}
 use Rattle.search.proofs.descent.choose.Statement.{statement}
@@ -12,27 +9,27 @@ opening-cost-requires : tie.Need-opening-cost-requires
 opening-cost-requires c κs = search needs
 
 cast-fees : tie.Need-cast-fees
-cast-fees c = let start = c .before .before .before .before .before .before .before .before in
+cast-fees c = let start = c .before .before .before .before in
     let a = start .args in
-    omega (arith, c .opening-cost .ensures .0, opening-few (a .m) (a .n) (a .opening .now) (a .service .now) (a .b .set) _ _ _ _ _ (start .pre .0) (start .pre .1))
+    omega (arith, c .opening-cost .ensures .0, opening-few (a .m) (a .n) (a .opening .now) (a .service .now) (a .b .set) _ (start .pre .0) (start .pre .1))
 
 slice-aggregate-add-up : tie.Need-slice-aggregate-add-up
 slice-aggregate-add-up c = search needs
 
 add-up-requires : tie.Need-add-up-requires
-add-up-requires c κs = let start = c .before .before .before .before .before .before .before .before .before in
+add-up-requires c κs = let start = c .before .before .before .before .before in
     let a = start .args in
-    adding (a .m) (a .n) (a .opening .now) (a .service .now) (a .b .set) _ _ _ _ _ (start .pre .0) _ _ (start .pre .1) (c .before .opening-cost .ensures .0) (search needs)
+    adding (a .m) (a .n) (a .opening .now) (a .service .now) (a .b .set) _ (start .pre .0) _ _ (start .pre .1) (c .before .opening-cost .ensures .0) (search needs)
 
 slice-aggregate-best-move : tie.Need-slice-aggregate-best-move
 slice-aggregate-best-move c = search needs
 
 best-move-requires : tie.Need-best-move-requires
 best-move-requires c κs = let up = c .before .before in
-    let start = c .before .before .before .before .before .before .before .before .before .before .before .before in
+    let start = c .before .before .before .before .before .before .before .before in
     let a = start .args in (
-      prices (a .m) (a .n) (a .opening .now) (a .service .now) (a .b .set) _ _ _ _ _ (start .pre .0) _ (start .pre .1)
-          (λ i l. up .add-up .ensures i l ∙ ap (λ (x : ℕ). x + getD (a .opening .now) i 0 + getD (a .added .now) i 0) (up .before .before .opening-cost .ensures .0)) (search needs),
+      prices (a .m) (a .n) (a .opening .now) (a .service .now) (a .b .set) _ (start .pre .0) _ _ (start .pre .1)
+          (up .before .before .opening-cost .ensures .0) (up .add-up .ensures) (search needs),
       start .pre .2,
     )
 

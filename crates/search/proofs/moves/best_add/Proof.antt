@@ -9,17 +9,17 @@ use Rattle.search.proofs.moves.best_add.Statement.{statement}
 use Rattle.search.proofs.moves.best_add.Tie as tie
 
 abbrev Inv-loop : tie.InvT-loop
-Inv-loop opening service m n set costs more loss b₀ i₀ b i =
+Inv-loop opening service m n set costs kept b₀ i₀ b i =
     (i ≤ m) × Passed (tableCost m n opening service) (addAt set) (b₀ .set) b i
 
 abbrev μ-loop : tie.MeasureT-loop
-μ-loop opening service m n set costs more loss b₀ i₀ b i = m - i
+μ-loop opening service m n set costs kept b₀ i₀ b i = m - i
 
 loop-holds : tie.Need-loop-holds Inv-loop μ-loop
-loop-holds c = (omega arith, passed-none _ _ _ (c .before .before .before .before .before .pre .1 .right))
+loop-holds c = (omega arith, passed-none _ _ _ (c .before .before .before .before .pre .1 .right))
 
 try-add-requires : tie.Need-try-add-requires Inv-loop μ-loop
-try-add-requires c κs = let s = c .before .before .before .before .before .before .before in
+try-add-requires c κs = let s = c .before .before .before .before .before .before in
     (s .pre .0, ready _ _ _ _ _ _ (s .pre .1 .tables) (c .before .loop .inv .1), c .loop-test .taken)
 
 add-i : tie.Need-add-i Inv-loop μ-loop
@@ -34,7 +34,7 @@ loop-again c =
 
 returns : tie.Need-returns Inv-loop μ-loop
 unfolding adds
-returns c = let e : c .before .loop .i ≡ c .before .before .before .before .before .before .before .args .m = omega arith in
+returns c = let e : c .before .loop .i ≡ c .before .before .before .before .before .before .args .m = omega arith in
     rw e at (c .before .loop .inv .1)
 
 pub best-add-spec : {M : Type 1} → statement M

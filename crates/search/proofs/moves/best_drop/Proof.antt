@@ -13,11 +13,11 @@ use Rattle.search.proofs.moves.best_drop.Statement.{statement}
 use Rattle.search.proofs.moves.best_drop.Tie as tie
 
 abbrev Inv-loop : tie.InvT-loop
-Inv-loop opening service m n set cost costs more loss b₀ o₀ b o =
+Inv-loop opening service m n set cost costs kept b₀ o₀ b o =
     (o ≤ m) × Passed (tableCost m n opening service) (dropAt set) (b₀ .set) b o
 
 abbrev μ-loop : tie.MeasureT-loop
-μ-loop opening service m n set cost costs more loss b₀ o₀ b o = m - o
+μ-loop opening service m n set cost costs kept b₀ o₀ b o = m - o
 
 open-count-requires : tie.Need-open-count-requires Inv-loop μ-loop
 open-count-requires c κs = search needs
@@ -25,13 +25,13 @@ open-count-requires c κs = search needs
 returns : tie.Need-returns Inv-loop μ-loop
 unfolding drops best
 returns c = rw (ap (leb 2) (sym (c .before .open-count .ensures)) ∙ lt-leb _ _ (c .if1 .taken))
-    (c .before .before .before .before .before .before .before .pre .1 .right)
+    (c .before .before .before .before .before .before .pre .1 .right)
 
 loop-holds : tie.Need-loop-holds Inv-loop μ-loop
-loop-holds c = (omega arith, passed-none _ _ _ (c .before .before .before .before .before .before .before .pre .1 .right))
+loop-holds c = (omega arith, passed-none _ _ _ (c .before .before .before .before .before .before .pre .1 .right))
 
 try-drop-requires : tie.Need-try-drop-requires Inv-loop μ-loop
-try-drop-requires c κs = let s = c .before .before .before .before .before .before .before .before .before in (
+try-drop-requires c κs = let s = c .before .before .before .before .before .before .before .before in (
   s .pre .0,
   ready _ _ _ _ _ _ (s .pre .1 .tables) (c .before .loop .inv .1),
   c .loop-test .taken,
@@ -51,7 +51,7 @@ loop-again c =
 
 returns-2 : tie.Need-returns-2 Inv-loop μ-loop
 unfolding drops
-returns-2 c = let e : c .before .loop .o ≡ c .before .before .before .before .before .before .before .before .before .args .m = omega arith in
+returns-2 c = let e : c .before .loop .o ≡ c .before .before .before .before .before .before .before .before .args .m = omega arith in
     rw (ap (leb 2) (sym (c .before .before .before .open-count .ensures)) ∙ le-leb _ _ (c .before .before .if1 .left))
     (rw e at (c .before .loop .inv .1))
 

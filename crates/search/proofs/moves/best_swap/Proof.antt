@@ -9,17 +9,17 @@ use Rattle.search.proofs.moves.best_swap.Statement.{statement}
 use Rattle.search.proofs.moves.best_swap.Tie as tie
 
 abbrev Inv-loop : tie.InvT-loop
-Inv-loop opening service m n set costs more loss b₀ o₀ b o =
+Inv-loop opening service m n set costs kept b₀ o₀ b o =
     (o ≤ m) × Passed (tableCost m n opening service) (swapsOut m set) (b₀ .set) b o
 
 abbrev μ-loop : tie.MeasureT-loop
-μ-loop opening service m n set costs more loss b₀ o₀ b o = m - o
+μ-loop opening service m n set costs kept b₀ o₀ b o = m - o
 
 loop-holds : tie.Need-loop-holds Inv-loop μ-loop
-loop-holds c = (omega arith, passed-none _ _ _ (c .before .before .before .before .before .pre .1 .right))
+loop-holds c = (omega arith, passed-none _ _ _ (c .before .before .before .before .pre .1 .right))
 
 best-swap-out-requires : tie.Need-best-swap-out-requires Inv-loop μ-loop
-best-swap-out-requires c κs = let s = c .before .before .before .before .before .before .before in
+best-swap-out-requires c κs = let s = c .before .before .before .before .before .before in
     let best = moved _ _ _ _ (s .args .start) (c .before .loop .b) _ _ (s .pre .1) (s .pre .2) (c .before .loop .inv .1) in
     (s .pre .0, best .0, best .1, c .loop-test .taken)
 
@@ -35,7 +35,7 @@ loop-again c =
 
 returns : tie.Need-returns Inv-loop μ-loop
 unfolding swaps
-returns c = let e : c .before .loop .o ≡ c .before .before .before .before .before .before .before .args .m = omega arith in
+returns c = let e : c .before .loop .o ≡ c .before .before .before .before .before .before .args .m = omega arith in
     rw e at (c .before .loop .inv .1)
 
 pub best-swap-spec : {M : Type 1} → statement M

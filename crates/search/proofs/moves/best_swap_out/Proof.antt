@@ -12,11 +12,11 @@ use Rattle.search.proofs.moves.best_swap_out.Statement.{statement}
 use Rattle.search.proofs.moves.best_swap_out.Tie as tie
 
 abbrev Inv-loop : tie.InvT-loop
-Inv-loop opening service m n set o costs more loss bound b₀ i₀ b i =
+Inv-loop opening service m n set o costs kept bound b₀ i₀ b i =
     (i ≤ m) × Passed (tableCost m n opening service) (swapAt set o) (b₀ .set) b i
 
 abbrev μ-loop : tie.MeasureT-loop
-μ-loop opening service m n set o costs more loss bound b₀ i₀ b i = m - i
+μ-loop opening service m n set o costs kept bound b₀ i₀ b i = m - i
 
 has-requires : tie.Need-has-requires Inv-loop μ-loop
 has-requires c κs = search needs
@@ -24,7 +24,7 @@ has-requires c κs = search needs
 returns : tie.Need-returns Inv-loop μ-loop
 unfolding swapsOut best
 returns c =
-    rw (said-no (c .before .has .ensures) (c .if1 .taken)) (c .before .before .before .before .before .before .before .pre .1 .right)
+    rw (said-no (c .before .has .ensures) (c .if1 .taken)) (c .before .before .before .before .before .before .pre .1 .right)
 
 mul-bound : tie.Need-mul-bound Inv-loop μ-loop
 mul-bound c = search needs
@@ -33,36 +33,39 @@ shared-slice-read-bound : tie.Need-shared-slice-read-bound Inv-loop μ-loop
 shared-slice-read-bound c = search needs
 
 cast-bound : tie.Need-cast-bound Inv-loop μ-loop
-cast-bound c = widens (c .shared-slice-known6 .given _)
+cast-bound c = widens (c .shared-slice-known5 .given _)
 
 add-bound : tie.Need-add-bound Inv-loop μ-loop
-add-bound c = let s = c .before .before .before .before .before .before .before .before .before in
+add-bound c = let s = c .before .before .before .before .before .before .before .before in
     omega (arith, s .pre .2, s .pre .0 .opening-small (s .args .o) (s .pre .3))
 
 cast-bound-2 : tie.Need-cast-bound-2 Inv-loop μ-loop
-cast-bound-2 c = let s = c .before .before .before .before .before .before .before .before .before in
+cast-bound-2 c = let s = c .before .before .before .before .before .before .before .before in
     omega (arith, s .pre .2, s .pre .0 .opening-small (s .args .o) (s .pre .3))
 
 mul-lower-count : tie.Need-mul-lower-count Inv-loop μ-loop
 mul-lower-count c = search needs
 
+add-lower-count : tie.Need-add-lower-count Inv-loop μ-loop
+add-lower-count c = search needs
+
 lower-count-requires : tie.Need-lower-count-requires Inv-loop μ-loop
-lower-count-requires c κs = let s = c .before .before .before .before .before .before .before .before .before in
-    row _ _ _ _ _ _ _ _ (s .pre .0) (s .args .o) (s .pre .3)
+lower-count-requires c κs = let s = c .before .before .before .before .before .before .before .before in
+    row _ _ _ _ _ _ _ (s .pre .0) (s .args .o) (s .pre .3)
 
 returns-2 : tie.Need-returns-2 Inv-loop μ-loop
-returns-2 c = let s = c .before .before .before .before .before .before .before .before .before .before .before in
+returns-2 c = let s = c .before .before .before .before .before .before .before .before .before .before in
     let asked = c .before .before .before .before in
     let leased = said-yes (asked .before .has .ensures) (asked .if1 .left) in
-    row-keeps _ _ _ _ _ _ _ _ (s .pre .0) (s .args .o) _ (s .args .start) (s .pre .1 .right) (s .pre .3) leased refl
+    row-keeps _ _ _ _ _ _ _ (s .pre .0) (s .args .o) _ (s .args .start) (s .pre .1 .right) (s .pre .3) leased refl
     (sym (c .before .lower-count .ensures) ∙ c .if2 .taken)
 
 loop-holds : tie.Need-loop-holds Inv-loop μ-loop
-loop-holds c = let s = c .before .before .before .before .before .before .before .before .before .before .before in
+loop-holds c = let s = c .before .before .before .before .before .before .before .before .before .before in
     (omega arith, passed-none _ _ _ (s .pre .1 .right))
 
 try-swap-requires : tie.Need-try-swap-requires Inv-loop μ-loop
-try-swap-requires c κs = let s = c .before .before .before .before .before .before .before .before .before .before .before .before .before in
+try-swap-requires c κs = let s = c .before .before .before .before .before .before .before .before .before .before .before .before in
     let asked = c .before .before .before .before .before .before in (
       s .pre .0,
       ready _ _ _ _ _ _ (s .pre .1 .tables) (c .before .loop .inv .1),
@@ -83,7 +86,7 @@ loop-again c =
 
 returns-3 : tie.Need-returns-3 Inv-loop μ-loop
 unfolding swapsOut
-returns-3 c = let s = c .before .before .before .before .before .before .before .before .before .before .before .before .before in
+returns-3 c = let s = c .before .before .before .before .before .before .before .before .before .before .before .before in
     let asked = c .before .before .before .before .before .before in
     let e : c .before .loop .i ≡ s .args .m = omega arith in
     rw (said-yes (asked .before .has .ensures) (asked .if1 .left)) (rw e at (c .before .loop .inv .1))
@@ -102,6 +105,7 @@ best-swap-out-spec =
     add-bound
     cast-bound-2
     mul-lower-count
+    add-lower-count
     lower-count-requires
     returns-2
     loop-holds

@@ -1,4 +1,5 @@
 -- `moves::try_drop` meets its contract: a closed yard gives no move, an open one gives one.
+use Prim.Native.Nat.{_+_}
 use native.Mathlib.Omega.{arith}
 use borrow.Author.Needs.{needs}
 use Rattle.model.specs.Neighbours.{dropAt}
@@ -14,7 +15,10 @@ has-requires c κs = search needs
 returns : tie.Need-returns
 unfolding dropAt best
 returns c =
-    rw (said-no (c .before .has .ensures) (c .if1 .taken)) (c .before .before .before .before .before .before .before .pre .1 .right)
+    rw (said-no (c .before .has .ensures) (c .if1 .taken)) (c .before .before .before .before .before .before .pre .1 .right)
+
+add-price : tie.Need-add-price
+add-price c = search needs
 
 mul-price : tie.Need-mul-price
 mul-price c = search needs
@@ -23,11 +27,11 @@ shared-slice-read-price : tie.Need-shared-slice-read-price
 shared-slice-read-price c = search needs
 
 cast-price : tie.Need-cast-price
-cast-price c = widens (c .shared-slice-known6 .given _)
+cast-price c = widens (c .shared-slice-known5 .given _)
 
-add-price : tie.Need-add-price
-add-price c = let s = c .before .before .before .before .before .before .before .before in
-    omega (arith, s .pre .0 .cost-small, s .pre .0 .loss-small (s .args .o) (omega (arith, s .pre .0 .few-facilities)))
+add-price-2 : tie.Need-add-price-2
+add-price-2 c = let s = c .before .before .before .before .before .before .before in
+    omega (arith, s .pre .0 .cost-small, s .pre .0 .kept-small (288 + s .args .o) (omega arith) (omega (arith, s .pre .0 .few-facilities)))
 
 mul-price-2 : tie.Need-mul-price-2
 mul-price-2 c = search needs
@@ -36,10 +40,10 @@ shared-slice-read-price-2 : tie.Need-shared-slice-read-price-2
 shared-slice-read-price-2 c = search needs
 
 cast-price-2 : tie.Need-cast-price-2
-cast-price-2 c = widens (c .shared-slice-known7 .given _)
+cast-price-2 c = widens (c .shared-slice-known6 .given _)
 
 sub-price : tie.Need-sub-price
-sub-price c = let s = c .before .before .before .before .before .before .before .before .before in
+sub-price c = let s = c .before .before .before .before .before .before .before .before in
     let leased = said-yes (c .before .before .before .has .ensures) (c .before .before .if1 .left) in
     omega (arith, s .pre .0 .drop (s .args .o) (s .pre .2) leased (s .pre .3))
 
@@ -51,7 +55,7 @@ better-of-requires c κs = search needs
 
 returns-2 : tie.Need-returns-2
 unfolding dropAt
-returns-2 c = let s = c .before .before .before .before .before .before .before .before .before .before .before in
+returns-2 c = let s = c .before .before .before .before .before .before .before .before .before .before in
     let leased = said-yes (c .before .before .before .before .before .has .ensures) (c .before .before .before .before .if1 .left) in
     let price-is = s .pre .0 .drop (s .args .o) (s .pre .2) leased (s .pre .3) in
     rw leased (one-move _ _ (s .args .b) _ (s .pre .1 .right) (omega (arith, price-is)) _ _
@@ -63,10 +67,11 @@ try-drop-spec =
     (tie.spec
     has-requires
     returns
+    add-price
     mul-price
     shared-slice-read-price
     cast-price
-    add-price
+    add-price-2
     mul-price-2
     shared-slice-read-price-2
     cast-price-2

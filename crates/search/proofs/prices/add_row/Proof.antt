@@ -1,4 +1,4 @@
--- `prices::add_row` meets its contract. The invariant: the sums keep their number, those of the columns passed have the row, the others not.
+-- `prices::add_row` meets its contract. The invariant: the table keeps its length, the sums of the columns passed have the row, the others not.
 use mathlib.Core.Path.{_≡_, refl}
 use Prim.Native.Nat.{_≤_, _-_}
 use native.Mathlib.Omega.{arith}
@@ -9,40 +9,48 @@ use Rattle.search.proofs.prices.add_row.Statement.{statement}
 use Rattle.search.proofs.prices.add_row.Tie as tie
 
 abbrev Inv-loop : tie.InvT-loop
-Inv-loop service row width sums₀ i₀ sums i = (i ≤ width) × (length sums ≡ length sums₀) × RowAdded i service row sums₀ sums
+Inv-loop service row width kept₀ i₀ kept i = (i ≤ width) × (length kept ≡ length kept₀) × RowAdded i service row kept₀ kept
 
 abbrev μ-loop : tie.MeasureT-loop
-μ-loop service row width sums₀ i₀ sums i = width - i
+μ-loop service row width kept₀ i₀ kept i = width - i
 
 loop-holds : tie.Need-loop-holds Inv-loop μ-loop
-loop-holds c = (omega arith, refl, row-added-none (c .args .service .now) (c .args .row) (c .args .sums .now))
+loop-holds c = (omega arith, refl, row-added-none (c .args .service .now) (c .args .row) (c .args .kept .now))
 
-mul-sums : tie.Need-mul-sums Inv-loop μ-loop
-mul-sums c = omega arith
+add-kept : tie.Need-add-kept Inv-loop μ-loop
+add-kept c = omega arith
 
-slice-read-sums : tie.Need-slice-read-sums Inv-loop μ-loop
-slice-read-sums c = omega arith
+mul-kept : tie.Need-mul-kept Inv-loop μ-loop
+mul-kept c = omega arith
 
-add-sums : tie.Need-add-sums Inv-loop μ-loop
-add-sums c = omega arith
+slice-read-kept : tie.Need-slice-read-kept Inv-loop μ-loop
+slice-read-kept c = omega arith
 
-mul-sums-2 : tie.Need-mul-sums-2 Inv-loop μ-loop
-mul-sums-2 c = omega arith
+add-kept-2 : tie.Need-add-kept-2 Inv-loop μ-loop
+add-kept-2 c = omega arith
 
-shared-slice-read-sums : tie.Need-shared-slice-read-sums Inv-loop μ-loop
-shared-slice-read-sums c = omega arith
+mul-kept-2 : tie.Need-mul-kept-2 Inv-loop μ-loop
+mul-kept-2 c = omega arith
 
-add-sums-2 : tie.Need-add-sums-2 Inv-loop μ-loop
-add-sums-2 c = let s = c .before .before .before .before in
+shared-slice-read-kept : tie.Need-shared-slice-read-kept Inv-loop μ-loop
+shared-slice-read-kept c = omega arith
+
+add-kept-3 : tie.Need-add-kept-3 Inv-loop μ-loop
+add-kept-3 c = let s = c .before .before .before .before in
     let l = c .before .before .before .loop in
-    let small = sum-small (s .args .service .now) (s .args .row) (s .args .sums .now) (s .args .width) (l .i) (l .sums) (omega arith) (s .pre) (l .inv .2) in
-    omega (arith, small)
+    let a = s .args in
+    record {
+      fits = sum-small (a .service .now) (a .row) (a .kept .now) (a .width) (l .i) (l .kept) (omega arith) (s .pre) (l .inv .2);
+    }
 
-mul-sums-3 : tie.Need-mul-sums-3 Inv-loop μ-loop
-mul-sums-3 c = omega arith
+add-kept-4 : tie.Need-add-kept-4 Inv-loop μ-loop
+add-kept-4 c = omega arith
 
-slice-write-sums : tie.Need-slice-write-sums Inv-loop μ-loop
-slice-write-sums c = omega arith
+mul-kept-3 : tie.Need-mul-kept-3 Inv-loop μ-loop
+mul-kept-3 c = omega arith
+
+slice-write-kept : tie.Need-slice-write-kept Inv-loop μ-loop
+slice-write-kept c = omega arith
 
 add-i : tie.Need-add-i Inv-loop μ-loop
 add-i c = omega arith
@@ -55,7 +63,7 @@ loop-again c = let a = c .before .before .before .before .args in
     let l = c .before .before .before .loop in (
       omega arith,
       simp length-set (l .inv .1),
-      row-added-more (a .service .now) (a .row) (a .sums .now) (l .i) (l .sums) (omega arith) (l .inv .2),
+      row-added-more (a .service .now) (a .row) (a .kept .now) (l .i) (l .kept) (omega arith) (l .inv .2),
     )
 
 same-length : tie.Need-same-length Inv-loop μ-loop
@@ -71,14 +79,16 @@ add-row-spec =
     Inv-loop
     μ-loop
     loop-holds
-    mul-sums
-    slice-read-sums
-    add-sums
-    mul-sums-2
-    shared-slice-read-sums
-    add-sums-2
-    mul-sums-3
-    slice-write-sums
+    add-kept
+    mul-kept
+    slice-read-kept
+    add-kept-2
+    mul-kept-2
+    shared-slice-read-kept
+    add-kept-3
+    add-kept-4
+    mul-kept-3
+    slice-write-kept
     add-i
     loop-less
     loop-again

@@ -1,18 +1,18 @@
--- `prices::add_rows` meets its contract. The invariant: the sums keep their number, and their front holds the sums over the rows passed.
+-- `prices::add_rows` meets its contract. The invariant: the table keeps its length and its other places, and its sums are those over the rows passed.
 use mathlib.Core.Path.{_≡_, refl}
 use Prim.Native.Nat.{_≤_, _-_}
 use native.Mathlib.Omega.{arith}
 use lib.ListN.{length}
-use Rattle.search.specs.Shifting.{ColumnSums}
-use Rattle.search.proofs.ShiftingLaws.{columns-none, columns-ready, columns-more}
+use Rattle.search.specs.Shifting.{ColumnSums, Aside}
+use Rattle.search.proofs.ShiftingLaws.{columns-none, columns-ready, columns-more, aside-none, aside-more}
 use Rattle.search.proofs.prices.add_rows.Statement.{statement}
 use Rattle.search.proofs.prices.add_rows.Tie as tie
 
 abbrev Inv-loop : tie.InvT-loop
-Inv-loop service m n sums₀ width j₀ sums j = (j ≤ n) × (width ≡ 32) × (length sums ≡ length sums₀) × ColumnSums m j service sums
+Inv-loop service m n kept₀ width j₀ kept j = (j ≤ n) × (width ≡ 32) × (length kept ≡ length kept₀) × ColumnSums m j service kept × Aside kept₀ kept
 
 abbrev μ-loop : tie.MeasureT-loop
-μ-loop service m n sums₀ width j₀ sums j = n - j
+μ-loop service m n kept₀ width j₀ kept j = n - j
 
 columns-requires : tie.Need-columns-requires Inv-loop μ-loop
 columns-requires c κs = omega arith
@@ -20,18 +20,18 @@ columns-requires c κs = omega arith
 loop-holds : tie.Need-loop-holds Inv-loop μ-loop
 loop-holds c = let s = c .before .before .before in
     let a = s .args in
-    (omega arith, c .columns .ensures, refl, columns-none (a .m) (a .service .now) (a .sums .now) (s .pre .2))
+    (omega arith, c .columns .ensures, refl, columns-none (a .m) (a .service .now) (a .kept .now) (s .pre .2), aside-none (a .kept .now))
 
 mul-add-row : tie.Need-mul-add-row Inv-loop μ-loop
 mul-add-row c = let s = c .before .before .before .before .before in
     let l = c .before .loop in
-    let can = columns-ready (s .args .m) (s .args .service .now) (s .args .n) (l .j) (l .sums) (s .pre .0) (omega arith) (omega arith) (l .inv .3) in
+    let can = columns-ready (s .args .m) (s .args .service .now) (s .args .n) (l .j) (l .kept) (s .pre .0) (omega arith) (omega arith) (l .inv .3) in
     omega (arith, can .row-room)
 
 add-row-requires : tie.Need-add-row-requires Inv-loop μ-loop
 add-row-requires c κs = let s = c .before .before .before .before .before .before in
     let l = c .before .before .loop in
-    rw (l .inv .1) (columns-ready (s .args .m) (s .args .service .now) (s .args .n) (l .j) (l .sums) (s .pre .0) (omega arith) (omega arith) (l .inv .3))
+    rw (l .inv .1) (columns-ready (s .args .m) (s .args .service .now) (s .args .n) (l .j) (l .kept) (s .pre .0) (omega arith) (omega arith) (l .inv .3))
 
 add-j : tie.Need-add-j Inv-loop μ-loop
 add-j c = omega arith
@@ -42,7 +42,8 @@ loop-less c = omega arith
 loop-again : tie.Need-loop-again Inv-loop μ-loop
 loop-again c = let a = c .before .before .before .before .before .before .before .before .before .args in
     let l = c .before .before .before .before .before .loop in
-    (omega arith, l .inv .1, omega arith, columns-more (a .m) (a .service .now) (l .j) (l .sums) _ (l .inv .3) (rw (l .inv .1) at (c .before .before .add-row .ensures)))
+    let added = rw (l .inv .1) at (c .before .before .add-row .ensures) in
+    (omega arith, l .inv .1, omega arith, columns-more (a .m) (a .service .now) (l .j) (l .kept) _ (l .inv .3) added, aside-more (l .inv .4) added)
 
 same-length : tie.Need-same-length Inv-loop μ-loop
 same-length c = c .before .loop .inv .2
@@ -50,7 +51,7 @@ same-length c = c .before .loop .inv .2
 returns : tie.Need-returns Inv-loop μ-loop
 returns c = let l = c .before .loop in
     let e : l .j ≡ c .before .before .before .before .before .args .n = omega arith in
-    rw e at (l .inv .3)
+    (rw e at (l .inv .3), l .inv .4)
 
 pub add-rows-spec : {M : Type 1} → statement M
 add-rows-spec =

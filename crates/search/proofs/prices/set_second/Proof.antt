@@ -1,9 +1,7 @@
 -- `prices::set_second` meets its contract: the laws of the sums that are kept, with what `shift` answers.
-use Prim.Native.Nat.{_%_}
-use lib.ListN.{getD}
-use mathlib.Core.Path.{refl}
+use lib.ListN.{length-set}
+use Rattle.search.proofs.KeptLaws.{kept-row-small, second-ready, second-loss-fits, second-loss-enough, second-put, second-kept}
 use native.Mathlib.Omega.{arith}
-use Rattle.search.proofs.KeptLaws.{kept-loss-small, kept-row-small, second-ready, loss-enough, kept-second}
 use borrow.Author.Needs.{needs}
 use Rattle.search.proofs.prices.set_second.Statement.{statement}
 use Rattle.search.proofs.prices.set_second.Tie as tie
@@ -11,11 +9,14 @@ use Rattle.search.proofs.prices.set_second.Tie as tie
 mul-o : tie.Need-mul-o
 mul-o c = search needs
 
-shared-slice-read-o : tie.Need-shared-slice-read-o
-shared-slice-read-o c = search needs
+slice-read-o : tie.Need-slice-read-o
+slice-read-o c = search needs
 
 cast-o : tie.Need-cast-o
 cast-o c = search needs
+
+add-last : tie.Need-add-last
+add-last c = search needs
 
 mul-last : tie.Need-mul-last
 mul-last c = search needs
@@ -24,76 +25,89 @@ slice-read-last : tie.Need-slice-read-last
 slice-read-last c = search needs
 
 mul-shift : tie.Need-mul-shift
-mul-shift c = let s = c .before .before .before .before .before .before .before .before in
-    omega (arith, kept-row-small (s .pre .0) (s .args .j) (s .pre .1))
+mul-shift c = let s = c .before .before .before .before in omega (arith, kept-row-small (s .pre .0) (s .args .j) (s .pre .1))
 
 mul-shift-2 : tie.Need-mul-shift-2
 mul-shift-2 c = search needs
 
+add-shift : tie.Need-add-shift
+add-shift c = search needs
+
 shift-requires : tie.Need-shift-requires
-shift-requires c κs = let s = c .before .before .before .before .before .before .before .before .before in
+shift-requires c κs = let s = c .before .before .before .before .before in
     second-ready (s .pre .0) (s .args .j) (s .pre .1) (s .args .second) (s .pre .2)
 
-mul-loss : tie.Need-mul-loss
-mul-loss c = search needs
+add-kept : tie.Need-add-kept
+add-kept c = search needs
 
-slice-read-loss : tie.Need-slice-read-loss
-slice-read-loss c = search needs
+mul-kept : tie.Need-mul-kept
+mul-kept c = search needs
 
-add-loss : tie.Need-add-loss
-add-loss c = let s = c .before .before .before .before .before .before .before .before .before .before .before .before .before in
-    omega (arith, kept-loss-small (s .pre .0) (getD (s .args .firsts .now) (s .args .j) 0 % 32) (omega arith), s .pre .3)
+slice-read-kept : tie.Need-slice-read-kept
+slice-read-kept c = search needs
 
-sub-loss : tie.Need-sub-loss
-sub-loss c = let s = c .before .before .before .before .before .before .before .before .before .before .before .before .before in
-    omega (arith, loss-enough (s .pre .0) (s .args .j) (s .pre .1), s .pre .2)
+add-kept-2 : tie.Need-add-kept-2
+add-kept-2 c = let s = c .before .before .before .before .before .before .before .before .before in
+    let shifted = c .before .before .before .shift .ensures in
+    record { fits = second-loss-fits (s .pre .0) (s .args .j) (s .pre .1) (s .args .second) (s .pre .2) (s .pre .3) _ shifted (omega arith) }
 
-mul-loss-2 : tie.Need-mul-loss-2
-mul-loss-2 c = search needs
+sub-kept : tie.Need-sub-kept
+sub-kept c = let s = c .before .before .before .before .before .before .before .before .before in
+    second-loss-enough (s .pre .0) (s .args .j) (s .pre .1) (s .args .second) (s .pre .2) (s .pre .3) _ (c .before .before .before .shift .ensures) (omega arith)
 
-slice-write-loss : tie.Need-slice-write-loss
-slice-write-loss c = search needs
+add-kept-3 : tie.Need-add-kept-3
+add-kept-3 c = search needs
 
-mul-seconds : tie.Need-mul-seconds
-mul-seconds c = search needs
+mul-kept-2 : tie.Need-mul-kept-2
+mul-kept-2 c = search needs
 
-slice-write-seconds : tie.Need-slice-write-seconds
-slice-write-seconds c = search needs
+slice-write-kept : tie.Need-slice-write-kept
+slice-write-kept c = search needs
+
+add-kept-4 : tie.Need-add-kept-4
+add-kept-4 c = search needs
+
+mul-kept-3 : tie.Need-mul-kept-3
+mul-kept-3 c = search needs
+
+slice-write-kept-2 : tie.Need-slice-write-kept-2
+slice-write-kept-2 c = let s = c .before .before .before .before .before .before .before .before .before in
+    simp length-set (omega (arith, s .pre .0 .room, s .pre .0 .rows .few-clients))
 
 same-length : tie.Need-same-length
 same-length c = search needs
 
-same-length-2 : tie.Need-same-length-2
-same-length-2 c = search needs
-
-same-length-3 : tie.Need-same-length-3
-same-length-3 c = search needs
-
 returns : tie.Need-returns
-returns c = let s = c .before .before .before .before .before .before .before .before .before .before .before .before .before in
-    (kept-second (s .pre .0) (s .args .j) (s .pre .1) (s .args .second) (s .pre .2) (s .pre .3) _ (c .before .before .before .shift .ensures) (omega arith), refl)
+returns c = let s = c .before .before .before .before .before .before .before .before .before in
+    let shifted = c .before .before .before .shift .ensures in (
+      second-kept (s .pre .0) (s .args .j) (s .pre .1) (s .args .second) (s .pre .2) (s .pre .3) _ shifted (omega arith),
+      second-put (s .pre .0) (s .args .j) (s .pre .1) (s .args .second) (s .pre .2) (s .pre .3) _ shifted (omega arith),
+    )
 
 pub set-second-spec : {M : Type 1} → statement M
 set-second-spec =
     tie.close
     (tie.spec
     mul-o
-    shared-slice-read-o
+    slice-read-o
     cast-o
+    add-last
     mul-last
     slice-read-last
     mul-shift
     mul-shift-2
+    add-shift
     shift-requires
-    mul-loss
-    slice-read-loss
-    add-loss
-    sub-loss
-    mul-loss-2
-    slice-write-loss
-    mul-seconds
-    slice-write-seconds
+    add-kept
+    mul-kept
+    slice-read-kept
+    add-kept-2
+    sub-kept
+    add-kept-3
+    mul-kept-2
+    slice-write-kept
+    add-kept-4
+    mul-kept-3
+    slice-write-kept-2
     same-length
-    same-length-2
-    same-length-3
     returns)

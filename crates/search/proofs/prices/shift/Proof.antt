@@ -9,14 +9,14 @@ use Rattle.search.proofs.prices.shift.Statement.{statement}
 use Rattle.search.proofs.prices.shift.Tie as tie
 
 abbrev Inv-loop : tie.InvT-loop
-Inv-loop service row plus minus more₀ at i₀ more i = (i ≤ 32) × (length more ≡ length more₀) × Shifted i service row plus minus more₀ at more
+Inv-loop service row plus minus kept₀ at i₀ kept i = (i ≤ 32) × (length kept ≡ length kept₀) × Shifted i service row plus minus kept₀ at kept
 
 abbrev μ-loop : tie.MeasureT-loop
-μ-loop service row plus minus more₀ at i₀ more i = 32 - i
+μ-loop service row plus minus kept₀ at i₀ kept i = 32 - i
 
 loop-holds : tie.Need-loop-holds Inv-loop μ-loop
 loop-holds c = let a = c .before .before .args in
-    (omega arith, refl, shifted-none (a .service .now) (a .row) (a .plus) (a .minus) (a .more .now) (a .at))
+    (omega arith, refl, shifted-none (a .service .now) (a .row) (a .plus) (a .minus) (a .kept .now) (a .at))
 
 add-moved : tie.Need-add-moved Inv-loop μ-loop
 add-moved c = omega arith
@@ -40,16 +40,16 @@ moved-requires : tie.Need-moved-requires Inv-loop μ-loop
 moved-requires c κs = let s = c .before .before .before .before .before .before in
     let l = c .before .before .before .loop in
     let a = s .args in
-    turn-ready (a .service .now) (a .row) (a .plus) (a .minus) (a .more .now) (a .at) (l .i) _ (l .more) refl (omega arith) (s .pre) (l .inv .2)
+    turn-ready (a .service .now) (a .row) (a .plus) (a .minus) (a .kept .now) (a .at) (l .i) _ (l .kept) refl (omega arith) (s .pre) (l .inv .2)
 
-add-more : tie.Need-add-more Inv-loop μ-loop
-add-more c = omega arith
+add-kept : tie.Need-add-kept Inv-loop μ-loop
+add-kept c = omega arith
 
-mul-more : tie.Need-mul-more Inv-loop μ-loop
-mul-more c = omega arith
+mul-kept : tie.Need-mul-kept Inv-loop μ-loop
+mul-kept c = omega arith
 
-slice-write-more : tie.Need-slice-write-more Inv-loop μ-loop
-slice-write-more c = omega arith
+slice-write-kept : tie.Need-slice-write-kept Inv-loop μ-loop
+slice-write-kept c = omega arith
 
 add-i : tie.Need-add-i Inv-loop μ-loop
 add-i c = omega arith
@@ -62,7 +62,7 @@ loop-again c = let a = c .before .before .before .before .before .before .before
     let l = c .before .before .before .before .loop in (
       omega arith,
       simp length-set (l .inv .1),
-      shifted-more (a .service .now) (a .row) (a .plus) (a .minus) (a .more .now) (a .at) (l .i) _ _ (l .more) refl (omega arith) (l .inv .2)
+      shifted-more (a .service .now) (a .row) (a .plus) (a .minus) (a .kept .now) (a .at) (l .i) _ _ (l .kept) refl (omega arith) (l .inv .2)
           (c .moved .ensures),
     )
 
@@ -86,9 +86,9 @@ shift-spec =
     mul-moved-2
     shared-slice-read-moved
     moved-requires
-    add-more
-    mul-more
-    slice-write-more
+    add-kept
+    mul-kept
+    slice-write-kept
     add-i
     loop-less
     loop-again

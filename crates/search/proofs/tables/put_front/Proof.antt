@@ -1,20 +1,19 @@
--- `tables::clear` meets its contract. The invariant: the table keeps its length, its front is zeros, and behind it nothing changed.
+-- `tables::put_front` meets its contract. The invariant: the table keeps its length, its front holds x, and behind it nothing changed.
 use mathlib.Core.Path.{_≡_, refl}
 use Prim.Native.Nat.{_≤_, _-_}
 use native.Mathlib.Nat.{not-suc-le-zero}
 use native.Mathlib.Omega.{arith}
 use lib.ListN.{length, length-set}
-use Rattle.search.specs.Tables.{Zeros}
-use Rattle.search.specs.Amounts.{Behind}
+use Rattle.search.specs.Amounts.{Behind, Front}
 use Rattle.search.proofs.TableLaws.{filled-more, behind-more}
-use Rattle.search.proofs.tables.clear.Statement.{statement}
-use Rattle.search.proofs.tables.clear.Tie as tie
+use Rattle.search.proofs.tables.put_front.Statement.{statement}
+use Rattle.search.proofs.tables.put_front.Tie as tie
 
 abbrev Inv-loop : tie.InvT-loop
-Inv-loop count table₀ i₀ table i = (i ≤ count) × (length table ≡ length table₀) × Zeros i table × Behind i table₀ table
+Inv-loop count x table₀ i₀ table i = (i ≤ count) × (length table ≡ length table₀) × Front i x table × Behind i table₀ table
 
 abbrev μ-loop : tie.MeasureT-loop
-μ-loop count table₀ i₀ table i = count - i
+μ-loop count x table₀ i₀ table i = count - i
 
 loop-holds : tie.Need-loop-holds Inv-loop μ-loop
 loop-holds c = (omega arith, refl, λ k l. absurd (not-suc-le-zero l), λ k l. refl)
@@ -35,8 +34,8 @@ loop-again : tie.Need-loop-again Inv-loop μ-loop
 loop-again c = let l = c .before .loop in (
   omega arith,
   simp length-set (l .inv .1),
-  filled-more (λ k. 0) (l .i) 0 (l .table) (omega arith) refl (l .inv .2),
-  behind-more (l .i) 0 (c .before .before .args .table .now) (l .table) (l .inv .3),
+  filled-more (λ k. c .before .before .args .x) (l .i) _ (l .table) (omega arith) refl (l .inv .2),
+  behind-more (l .i) _ (c .before .before .args .table .now) (l .table) (l .inv .3),
 )
 
 same-length : tie.Need-same-length Inv-loop μ-loop
@@ -45,8 +44,8 @@ same-length c = c .before .loop .inv .1
 returns : tie.Need-returns Inv-loop μ-loop
 returns c = (λ k l. c .before .loop .inv .2 k (omega arith), λ k l. c .before .loop .inv .3 k (omega arith))
 
-pub clear-spec : {M : Type 1} → statement M
-clear-spec =
+pub put-front-spec : {M : Type 1} → statement M
+put-front-spec =
     tie.close
     (tie.spec
     Inv-loop

@@ -1,0 +1,2 @@
+-- TimingLaws: the cases of the calls, and that the bytes written keep to their bits.
+pub mod TimingLaws

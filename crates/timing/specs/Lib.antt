@@ -1,0 +1,2 @@
+-- Timing: what the calls of the benchmark give.
+pub mod Timing
