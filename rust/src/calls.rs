@@ -37,6 +37,7 @@ pub const FAST: Calls = Calls {
 pub const ALL: [Calls; 3] = [LIBRARY, LITERAL, FAST];
 
 /// The same without question 6, in the same order.
+#[cfg(feature = "timing")]
 pub const WITHOUT_RULE: [Calls; 3] = [
     Calls {
         name: LIBRARY.name,

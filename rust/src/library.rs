@@ -2,6 +2,7 @@
 //!
 //! Every call takes any bytes, any set, any count and any area. A refused call gives document 01's number and leaves the area as
 //! it was.
+#[cfg(feature = "timing")]
 pub mod without_rule;
 
 use crate::{Answer, Counts, Written};

@@ -15,11 +15,10 @@ use Rattle.model.specs.Plans.{openCost, limitedCost}
 use Rattle.model.proofs.LoopLaws.{up-to}
 use Rattle.model.proofs.SumLaws.{sum-cong, sum-zero, on-zero}
 use Rattle.model.proofs.CostLaws.{service-once, same-service, same-opening}
-use Rattle.sheet.specs.declared.record.Record.{Record}
-use Rattle.sheet.specs.Records.{recordAt, wholeRecordAt}
+use Rattle.sheet.specs.Records.{recordAt}
 use Rattle.sheet.specs.Sheet.{fee, haul, instanceBy}
-use Rattle.sheet.proofs.RecordLaws.{whole}
 use Rattle.sheet.proofs.ShapeLaws.{few-hauls, row-within}
+use Rattle.price.specs.Nearest.{amountAt}
 use Rattle.search.specs.Tables.{Tables, tabled, tableCost, Holds, Zeros}
 use Rattle.search.specs.Amounts.{Within, Behind, AtMost, Blank}
 use Rattle.search.specs.Prices.{Rows}
@@ -44,11 +43,10 @@ module _ (s : List ℕ) (from : ℕ) where
   holds-none table k l = absurd (not-suc-le-zero l)
 
   -- a turn, with what its call answers
-  pub holds-more : (i : ℕ) (table : List ℕ) (r : Record) → i < length table → 8 * (from + i) + 8 ≤ length s
-      → r ≡ wholeRecordAt s (from + i) → Holds s from i table → Holds s from (i + 1) (set table i (r .amount))
-  holds-more i table r room within e h =
-      filled-more (λ k. recordAt s (from + k) .amount) i (r .amount) table room
-      (ap (λ (r : Record). r .amount) (e ∙ whole s (from + i) within)) h
+  pub holds-more : (i x : ℕ) (table : List ℕ) → i < length table → x ≡ amountAt s (from + i) → Holds s from i table
+      → Holds s from (i + 1) (set table i x)
+  unfolding amountAt
+  holds-more i x table room e h = filled-more (λ k. recordAt s (from + k) .amount) i x table room e h
 
 -- ---- tables for the search
 

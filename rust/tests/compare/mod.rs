@@ -2,7 +2,9 @@
 //! them so that the benchmark's times are those of the same answers.
 mod tally;
 
-use planner::calls::{Calls, PlanCall, ALL, WITHOUT_RULE};
+#[cfg(feature = "timing")]
+use planner::calls::WITHOUT_RULE;
+use planner::calls::{Calls, PlanCall, ALL};
 use planner::format::{least_area, MOST_AREA, MOST_FARMS, MOST_YARDS, RECORD};
 use planner::random::Random;
 use planner::samples::Sample;
@@ -38,6 +40,7 @@ pub fn every_call(sample: &Sample, seed: u64, tally: &mut Tally) {
 }
 
 /// The same without question 6. A farm's stretch never asks it.
+#[cfg(feature = "timing")]
 #[allow(dead_code)]
 pub fn every_call_without_rule(sample: &Sample, seed: u64, tally: &mut Tally) {
     Comparison::new(&WITHOUT_RULE, sample, seed, tally).reading_and_plans();

@@ -1,6 +1,5 @@
 -- `tables::fill` meets its contract. The invariant: the table keeps its length, its front holds the amounts of the records passed, and
 -- behind it nothing changed.
-use borrow.Author.Needs.{needs}
 use mathlib.Core.Path.{_≡_, refl}
 use Prim.Native.Nat.{_≤_, _-_}
 use native.Mathlib.Omega.{arith}
@@ -21,11 +20,11 @@ loop-holds : tie.Need-loop-holds Inv-loop μ-loop
 loop-holds c = let a = c .before .before .args in
     (omega arith, refl, holds-none (a .sheet .now) (a .from) (a .table .now), λ k l. refl)
 
-add-at : tie.Need-add-at Inv-loop μ-loop
-add-at c = omega arith
+add-amount-at : tie.Need-add-amount-at Inv-loop μ-loop
+add-amount-at c = omega arith
 
-at-requires : tie.Need-at-requires Inv-loop μ-loop
-at-requires c κs = search needs
+amount-at-requires : tie.Need-amount-at-requires Inv-loop μ-loop
+amount-at-requires c κs = omega arith
 
 mul-table : tie.Need-mul-table Inv-loop μ-loop
 mul-table c = omega arith
@@ -44,7 +43,7 @@ loop-again c = let a = c .before .before .before .before .before .args in
     let l = c .before .before .loop in (
       omega arith,
       simp length-set (l .inv .1),
-      holds-more (a .sheet .now) (a .from) (l .i) (l .table) _ (omega arith) (omega arith) (c .at .ensures) (l .inv .2),
+      holds-more (a .sheet .now) (a .from) (l .i) _ (l .table) (omega arith) (c .amount-at .ensures) (l .inv .2),
       behind-more (l .i) _ (a .table .now) (l .table) (l .inv .3),
     )
 
@@ -61,8 +60,8 @@ fill-spec =
     Inv-loop
     μ-loop
     loop-holds
-    add-at
-    at-requires
+    add-amount-at
+    amount-at-requires
     mul-table
     slice-write-table
     add-i
