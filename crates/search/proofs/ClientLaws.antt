@@ -13,7 +13,7 @@ use Rattle.model.proofs.LoopLaws.{up-to}
 use Rattle.sets.specs.declared.Members.{Members}
 use Rattle.sets.specs.Members.{membersOf}
 use Rattle.search.specs.Prices.{InOrder, firstAt, secondAt, nearTwo, nearOf, NearAt, Moved, arrivalAt, goesTo}
-use Rattle.search.specs.Standing.{Listed, NearUpTo, NearFrom, Others, PutAt, keeps}
+use Rattle.search.specs.Standing.{Listed, Uncounted, NearUpTo, NearFrom, Others, PutAt, keeps}
 use Rattle.search.specs.declared.near.Near.{Near}
 use Rattle.search.proofs.NearLaws.{near-stays, near-in-order}
 
@@ -45,8 +45,11 @@ module _ (m : ℕ) (service before after : List ℕ) (j : ℕ) where
         record {
           begun = λ k l. up-to (NearAt m service after set) j (λ k l. near-stays-put set k (omega arith) (λ q. omega arith) (h .begun k l)) here k (omega arith);
           waiting = λ k l below.
-              others .seconds k (omega arith) (λ q. omega arith)
-              ∙ (h .waiting k (omega arith) below ∙ sym (others .firsts k (omega arith) (λ q. omega arith)));
+              let still = h .waiting k (omega arith) below in
+              record {
+                first = others .firsts k (omega arith) (λ q. omega arith) ∙ still .first;
+                second = others .seconds k (omega arith) (λ q. omega arith) ∙ still .second;
+              };
         }
 
     -- a client more has moved
@@ -63,7 +66,7 @@ pub none-moved : (m n : ℕ) (service kept : List ℕ) (set next : ℕ) → ((j 
     → NearFrom m n service kept set next 0
 none-moved m n service kept set next h = record { moved = λ k l. absurd (not-suc-le-zero l); waiting = λ k l below. h k below }
 
-pub none-begun : (m n : ℕ) (service kept : List ℕ) (set : ℕ) → ((j : ℕ) → j < n → secondAt kept j ≡ firstAt kept j)
+pub none-begun : (m n : ℕ) (service kept : List ℕ) (set : ℕ) → ((j : ℕ) → j < n → Uncounted kept j)
     → NearUpTo m n service kept set 0
 none-begun m n service kept set h = record { begun = λ k l. absurd (not-suc-le-zero l); waiting = λ k l below. h k below }
 

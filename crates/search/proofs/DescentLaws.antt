@@ -123,7 +123,7 @@ module _ (m n : ℕ) (service : List ℕ) where
   pub fresh-near : (front kept : List ℕ) (set : ℕ) → Aside front kept → Front 256 32000031 front → n ≤ 128 → NearUpTo m n service kept set 0
   fresh-near front kept set aside far few =
       let farthest : (k : ℕ) → k < 256 → getD kept k 0 ≡ 32000031 = λ k l. aside .below k l ∙ far k l in
-      none-begun m n service kept set (λ j l. farthest (128 + j) (omega arith) ∙ sym (farthest j (omega arith)))
+      none-begun m n service kept set (λ j l. record { first = farthest j (omega arith); second = farthest (128 + j) (omega arith) })
 
 -- ---- one step
 

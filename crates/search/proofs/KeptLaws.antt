@@ -1,8 +1,8 @@
 -- Laws of the sums that the search keeps: how large they are, what they are at the start, and that they are kept as one client's two
 -- nearest facilities change. A client whose two are one and the same adds nothing to the sums from 288 on, whatever facility it is; so a
--- client's two change in steps: its second comes to its first, both become another one, its second goes on from there.
+-- client that is not counted has what stands for a missing facility as both, and one whose first changes is counted out and in again.
 use Prim.Native.Nat.{ℕ, _+_, _-_, _*_, _/_, _%_, _≤_, _<_, min}
-use native.Mathlib.Nat.{le-refl, lt-of-lt-of-le}
+use native.Mathlib.Nat.{le-refl, le-trans, lt-of-lt-of-le}
 use native.Mathlib.Omega.{arith}
 use mathlib.Core.Path.{_≡_, refl, sym, ap, ap₂, subst, _∙_}
 use mathlib.Core.Bool.{Bool}
@@ -17,7 +17,7 @@ use Rattle.model.proofs.SumLaws.{sum-bound, sum-term, sum-cong, sum-zero, sum-c
 use Rattle.sheet.proofs.ShapeLaws.{row-within, few-hauls}
 use Rattle.search.specs.Prices.{entry, Rows, firstAt, secondAt, addedSum, moreSum, lossSum, Kept}
 use Rattle.search.specs.Shifting.{Shiftable, Shifted, ShiftedBoth, ColumnSums}
-use Rattle.search.specs.Standing.{PutAt}
+use Rattle.search.specs.Standing.{PutAt, Uncounted}
 
 -- ---- one client's part in each sum, by its two nearest facilities
 
@@ -57,6 +57,10 @@ more-little o c first second small =
 
 loss-little : (o first second : ℕ) → second ≤ 32000031 → lossOf o first second ≤ 1000000
 loss-little o first second small = omega (arith, on-le (eqb (first % 32) o) (second / 32 - first / 32))
+
+-- the cost in a number of facility and cost is within question 5's bound
+divided-cost : (x : ℕ) → x ≤ 32000031 → x / 32 ≤ 1000000
+divided-cost x l = omega arith
 
 -- ---- how large the sums are
 
@@ -133,11 +137,17 @@ module _ {m n : ℕ} {service kept : List ℕ} (sums : Kept m n service kept) wh
           on-owner o o x refl,
         )
 
+    second-cost : secondAt kept j / 32 ≤ 1000000
+    second-cost = divided-cost (secondAt kept j) (sums .within j client)
+
     -- to change its second nearest
-    pub second-ready : (second : ℕ) → firstAt kept j ≤ second
+    pub second-ready : (second : ℕ) → firstAt kept j ≤ second → second ≤ 32000031
         → Shiftable service (j * m) (secondAt kept j / 32) (second / 32) kept (320 + 32 * (firstAt kept j % 32))
-    second-ready second ordered =
+    second-ready second ordered within =
         record {
+          costs = λ i l. sums .rows .within (j * m + i);
+          plus-cost = second-cost;
+          minus-cost = divided-cost second within;
           row-room = row-room;
           room = omega (arith, sums .room);
           enough =
@@ -149,14 +159,17 @@ module _ {m n : ℕ} {service kept : List ℕ} (sums : Kept m n service kept) wh
           small = λ i l. omega (arith, more-small (firstAt kept j % 32) i (omega arith) l, sums .rows .within (j * m + i));
         }
 
-    -- to change both, where they are one and the same
-    pub enter-ready : (first second : ℕ) → first ≤ second
-        → Shiftable service (j * m) (firstAt kept j / 32) (first / 32) kept 256
+    -- to count it in, where it is not counted
+    pub enter-ready : (first second : ℕ) → first ≤ second → second ≤ 32000031 → Uncounted kept j
+        → Shiftable service (j * m) 1000000 (first / 32) kept 256
         × Shiftable service (j * m) (first / 32) (second / 32) kept (320 + 32 * (first % 32))
         × (320 ≤ 320 + 32 * (first % 32))
     unfolding addedSum
-    enter-ready first second ordered = (
+    enter-ready first second ordered within apart = (
       record {
+        costs = λ i l. sums .rows .within (j * m + i);
+        plus-cost = le-refl 1000000;
+        minus-cost = divided-cost first (le-trans ordered within);
         row-room = row-room;
         room = omega (arith, sums .room);
         enough =
@@ -164,16 +177,38 @@ module _ {m n : ℕ} {service kept : List ℕ} (sums : Kept m n service kept) wh
               arith,
               sums .added-is i l,
               sum-term n (λ j. min (entry m service j i) (firstAt kept j / 32)) j client,
-              least-fills (entry m service j i) (firstAt kept j / 32),
+              apart .first,
+              sums .rows .within (j * m + i),
             );
         small = λ i l. omega (arith, added-small i l, sums .rows .within (j * m + i));
       },
       record {
+        costs = λ i l. sums .rows .within (j * m + i);
+        plus-cost = divided-cost first (le-trans ordered within);
+        minus-cost = divided-cost second within;
         row-room = row-room;
         room = omega (arith, sums .room);
         enough = λ i l. omega arith;
         small = λ i l. omega (arith, more-small (first % 32) i (omega arith) l, sums .rows .within (j * m + i));
       },
+      omega arith,
+    )
+
+    -- to count it out
+    pub leave-ready : Shiftable service (j * m) (firstAt kept j / 32) 1000000 kept 256
+        × Shiftable service (j * m) (secondAt kept j / 32) (firstAt kept j / 32) kept (320 + 32 * (firstAt kept j % 32))
+        × (320 ≤ 320 + 32 * (firstAt kept j % 32))
+    leave-ready = (
+      record {
+        costs = λ i l. sums .rows .within (j * m + i);
+        plus-cost = divided-cost (firstAt kept j) (le-trans (sums .ordered j client) (sums .within j client));
+        minus-cost = le-refl 1000000;
+        row-room = row-room;
+        room = omega (arith, sums .room);
+        enough = λ i l. omega (arith, sums .rows .within (j * m + i));
+        small = λ i l. omega (arith, added-small i l, sums .rows .within (j * m + i));
+      },
+      second-ready (firstAt kept j) (le-refl (firstAt kept j)) (le-trans (sums .ordered j client) (sums .within j client)),
       omega arith,
     )
 
@@ -247,6 +282,11 @@ module _ {m n : ℕ} {service before : List ℕ} (sums : Kept m n service before
 
 -- ---- the second goes on
 
+-- the loss of facility o has been stored, and the other places from 288 on are as they were
+record LossStored (o x : ℕ) (mid after : List ℕ) : Type 0 where
+  here : getD after (288 + o) 0 ≡ x
+  else-where : (k : ℕ) → 288 ≤ k → ¬ (k ≡ 288 + o) → getD after k 0 ≡ getD mid k 0
+
 -- the table with a loss and a second stored
 module _ (mid : List ℕ) (room : 1344 ≤ length mid) (j o x second : ℕ) (client : j < 128) (facility : o < 32) where
   abbrev stored : List ℕ
@@ -264,6 +304,9 @@ module _ (mid : List ℕ) (room : 1344 ≤ length mid) (j o x second : ℕ) (cli
   stored-loss : getD stored (288 + o) 0 ≡ x
   stored-loss =
       getD-set-other (set mid (288 + o) x) (128 + j) (288 + o) second 0 (λ q. omega arith) ∙ getD-set-same mid (288 + o) x 0 (omega arith)
+
+  stored-loss-alone : LossStored o x mid stored
+  stored-loss-alone = record { here = stored-loss; else-where = λ k from ne. stored-else k (λ q. omega arith) ne }
 
   -- where the table held the other clients' places and these before, it is a put
   stored-put : (before : List ℕ) (first : ℕ) → getD mid j 0 ≡ first
@@ -304,20 +347,12 @@ more-goes-on x y c first last second l g moved =
 divided : (x y : ℕ) → x ≤ y → x / 32 ≤ y / 32
 divided x y l = omega arith
 
-module _ {service before mid : List ℕ} (row j first last second : ℕ) (client : j < 128) (ordered : first ≤ last) (above-first : first ≤ second)
-    (room : 1344 ≤ length mid) (shifted : RowShifted service row (first % 32) (last / 32) (second / 32) before mid)
-    (enough : last / 32 ≤ getD before (288 + first % 32) 0 + first / 32) where
+module _ {service before mid after : List ℕ} (row first last second : ℕ) (ordered : first ≤ last) (above-first : first ≤ second)
+    (shifted : RowShifted service row (first % 32) (last / 32) (second / 32) before mid)
+    (enough : last / 32 ≤ getD before (288 + first % 32) 0 + first / 32)
+    (loss : LossStored (first % 32) (getD mid (288 + first % 32) 0 + second / 32 - last / 32) mid after) where
   abbrev owner : ℕ
   owner = first % 32
-
-  abbrev new-loss : ℕ
-  new-loss = getD mid (288 + owner) 0 + second / 32 - last / 32
-
-  abbrev after : List ℕ
-  after = set (set mid (288 + owner) new-loss) (128 + j) second
-
-  facility : owner < 32
-  facility = omega arith
 
   loss-step : (o : ℕ) → o < 32 → getD after (288 + o) 0 + lossOf o first last ≡ getD before (288 + o) 0 + lossOf o first second
   loss-step o l =
@@ -326,7 +361,7 @@ module _ {service before mid : List ℕ} (row j first last second : ℕ) (client
       subst (λ (o : ℕ). getD after (288 + o) 0 + lossOf o first last ≡ getD before (288 + o) 0 + lossOf o first second) same here)
       (λ e. let ne : ¬ (owner ≡ o) = eqb-false owner o e in
       ap₂ _+_
-      (stored-else mid room j owner new-loss second client facility (288 + o) (λ q. omega arith) (λ q. ne (omega arith)) ∙ shifted .below (288 + o) (omega arith) (omega arith))
+      (loss .else-where (288 + o) (omega arith) (λ q. ne (omega arith)) ∙ shifted .below (288 + o) (omega arith) (omega arith))
       (on-other owner o (last / 32 - first / 32) ne ∙ sym (on-other owner o (second / 32 - first / 32) ne)))
     where
       held : getD mid (288 + owner) 0 ≡ getD before (288 + owner) 0
@@ -335,7 +370,7 @@ module _ {service before mid : List ℕ} (row j first last second : ℕ) (client
       here : getD after (288 + owner) 0 + lossOf owner first last ≡ getD before (288 + owner) 0 + lossOf owner first second
       here =
           ap₂ _+_
-          (stored-loss mid room j owner new-loss second client facility ∙ ap (λ (x : ℕ). x + second / 32 - last / 32) held)
+          (loss .here ∙ ap (λ (x : ℕ). x + second / 32 - last / 32) held)
           (on-owner owner owner (last / 32 - first / 32) refl)
           ∙ loss-goes-on (getD before (288 + owner) 0) (first / 32) (last / 32) (second / 32) (divided first last ordered) (divided first second above-first) enough
           ∙ ap (λ (x : ℕ). getD before (288 + owner) 0 + x) (sym (on-owner owner owner (second / 32 - first / 32) refl))
@@ -347,7 +382,7 @@ module _ {service before mid : List ℕ} (row j first last second : ℕ) (client
       let c = getD service (row + i) 0 in
       let before-part = min c (last / 32) - min c (first / 32) in
       let after-part = min c (second / 32) - min c (first / 32) in
-      let stays = stored-else mid room j owner new-loss second client facility (320 + 32 * o + i) (λ q. omega arith) (λ q. omega arith) in
+      let stays = loss .else-where (320 + 32 * o + i) (omega arith) (λ q. omega arith) in
       cases (eqb owner o)
       (λ e. let same : owner ≡ o = eqb-true owner o e in
       ap₂ _+_ stays (on-owner owner o before-part same)
@@ -403,21 +438,22 @@ module _ {m n : ℕ} {service before : List ℕ} (sums : Kept m n service before
         (λ i l. ap (λ (x : ℕ). x + min (entry m service j i) (firstAt before j / 32))
         (stored-else mid mid-room j (firstAt before j % 32) _ second early (omega arith) (256 + i) (λ q. omega (arith, early)) (λ q. omega arith)
         ∙ shifted .below (256 + i) (omega arith)))
-        (loss-step (j * m) j (firstAt before j) (secondAt before j) second early (sums .ordered j client) ordered mid-room row (loss-enough sums j client))
-        (more-step (j * m) j (firstAt before j) (secondAt before j) second early (sums .ordered j client) ordered mid-room row (loss-enough sums j client))
+        (loss-step (j * m) (firstAt before j) (secondAt before j) second (sums .ordered j client) ordered row (loss-enough sums j client) loss)
+        (more-step (j * m) (firstAt before j) (secondAt before j) second (sums .ordered j client) ordered row (loss-enough sums j client) loss)
       where
+        loss : LossStored (firstAt before j % 32) (getD mid (288 + firstAt before j % 32) 0 + second / 32 - secondAt before j / 32) mid second-table
+        loss = stored-loss-alone mid mid-room j (firstAt before j % 32) _ second early (omega arith)
+
         row : RowShifted service (j * m) (firstAt before j % 32) (secondAt before j / 32) (second / 32) before mid
         row = record { inside = shifted .inside; below = λ k l h. shifted .below k h; above = shifted .above }
 
-  -- both, where they were one and the same
-  module _ (first second : ℕ) (ordered : first ≤ second) (within : second ≤ 32000031) (one : secondAt before j ≡ firstAt before j) (mid : List ℕ)
-      (shifted : ShiftedBoth 32 service (j * m) (firstAt before j / 32) (first / 32) (second / 32) before (320 + 32 * (first % 32)) mid)
-      (same-length : length mid ≡ length before) where
+  -- both places of the client, in a table whose two stretches have been shifted
+  module _ (first second o x : ℕ) (facility : o < 32) (mid : List ℕ) (same-length : length mid ≡ length before) where
     abbrev with-first : List ℕ
     with-first = set mid j first
 
-    abbrev enter-table : List ℕ
-    enter-table = set (set with-first (288 + first % 32) (getD with-first (288 + first % 32) 0 + second / 32 - first / 32)) (128 + j) second
+    abbrev both-table : List ℕ
+    both-table = set (set with-first (288 + o) x) (128 + j) second
 
     first-room : 1344 ≤ length with-first
     first-room = rw (length-set, same-length) (sums .room)
@@ -425,37 +461,82 @@ module _ {m n : ℕ} {service before : List ℕ} (sums : Kept m n service before
     first-else : (k : ℕ) → ¬ (k ≡ j) → getD with-first k 0 ≡ getD mid k 0
     first-else k ne = getD-set-other mid j k first 0 ne
 
-    pub enter-loss-fits : getD with-first (288 + first % 32) 0 + second / 32 < 4294967296
+    both-room : 1344 ≤ length both-table
+    both-room = stored-room with-first first-room j o x second early facility
+
+    both-loss : LossStored o x with-first both-table
+    both-loss = stored-loss-alone with-first first-room j o x second early facility
+
+    module _ {plus₁ minus₁ plus₂ minus₂ : ℕ}
+        (shifted : ShiftedBoth 32 service (j * m) plus₁ minus₁ plus₂ minus₂ before (320 + 32 * o) mid) where
+      loss-as-before : getD with-first (288 + o) 0 ≡ getD before (288 + o) 0
+      loss-as-before =
+          first-else (288 + o) (λ q. omega (arith, early)) ∙ shifted .between (288 + o) (omega arith) (omega arith)
+
+      both-put : PutAt j first second before both-table
+      both-put =
+          stored-put with-first first-room j o x second early facility before first
+          (getD-set-same mid j first 0 (omega (arith, early, sums .room, same-length)))
+          (λ k l ne. first-else k ne ∙ shifted .below k l)
+
+      both-row : RowShifted service (j * m) o plus₂ minus₂ before with-first
+      both-row =
+          record {
+            inside = λ i l. ap (λ (x : ℕ). x + (getD service (j * m + i) 0 - minus₂)) (first-else (320 + 32 * o + i) (λ q. omega (arith, early))) ∙ shifted .more i l;
+            below = λ k l h. first-else k (λ q. omega (arith, early)) ∙ shifted .between k l h;
+            above = λ k l. first-else k (λ q. omega (arith, early)) ∙ shifted .above k l;
+          }
+
+      both-added : (i : ℕ) → i < 32 → getD both-table (256 + i) 0 + min (entry m service j i) plus₁
+          ≡ getD before (256 + i) 0 + min (entry m service j i) minus₁
+      both-added i l =
+          ap (λ (x : ℕ). x + min (entry m service j i) plus₁)
+          (stored-else with-first first-room j o x second early facility (256 + i) (λ q. omega (arith, early)) (λ q. omega arith)
+          ∙ first-else (256 + i) (λ q. omega (arith, early)))
+          ∙ added-moves (getD before (256 + i) 0) (getD mid (256 + i) 0) (entry m service j i) plus₁ minus₁ (shifted .added i l)
+        where
+          added-moves : (x y c p q : ℕ) → y + (c - q) ≡ x + (c - p) → y + min c p ≡ x + min c q
+          added-moves x y c p q moved = omega (arith, least-fills c p, least-fills c q)
+
+  -- a client that was not counted
+  module _ (first second : ℕ) (ordered : first ≤ second) (within : second ≤ 32000031) (apart : Uncounted before j) (mid : List ℕ)
+      (shifted : ShiftedBoth 32 service (j * m) 1000000 (first / 32) (first / 32) (second / 32) before (320 + 32 * (first % 32)) mid)
+      (same-length : length mid ≡ length before) where
+    abbrev entered : ℕ
+    entered = first % 32
+
+    facility : entered < 32
+    facility = omega arith
+
+    abbrev enter-loss : ℕ
+    enter-loss = getD (set mid j first) (288 + entered) 0 + second / 32 - first / 32
+
+    pub enter-loss-fits : getD (set mid j first) (288 + entered) 0 + second / 32 < 4294967296
     enter-loss-fits =
-        omega (
-          arith,
-          first-else (288 + first % 32) (λ q. omega (arith, early)),
-          shifted .between (288 + first % 32) (omega arith) (omega arith),
-          loss-small sums (first % 32) (omega arith),
-        )
+        omega (arith, loss-as-before first second entered enter-loss facility mid same-length shifted, loss-small sums entered facility)
 
-    pub enter-put : PutAt j first second before enter-table
-    enter-put =
-        stored-put with-first first-room j (first % 32) _ second early (omega arith) before first
-        (getD-set-same mid j first 0 (omega (arith, early, sums .room, same-length)))
-        (λ k l ne. first-else k ne ∙ shifted .below k l)
+    pub enter-put : PutAt j first second before (set (set (set mid j first) (288 + first % 32) (getD (set mid j first) (288 + first % 32) 0 + second / 32 - first / 32)) (128 + j) second)
+    enter-put = both-put first second entered enter-loss facility mid same-length shifted
 
-    pub enter-kept : Kept m n service enter-table
+    pub enter-kept : Kept m n service (set (set (set mid j first) (288 + first % 32) (getD (set mid j first) (288 + first % 32) 0 + second / 32 - first / 32)) (128 + j) second)
     enter-kept =
         kept-change sums j client first second _ enter-put ordered within
-        (stored-room with-first first-room j (first % 32) _ second early (omega arith))
-        added
-        (λ o l. ap (λ (x : ℕ). getD enter-table (288 + o) 0 + x) (no-loss o) ∙ loss-step (j * m) j first first second early (le-refl first) ordered first-room row (omega arith) o l)
-        (λ o i lo li. ap (λ (x : ℕ). getD enter-table (320 + 32 * o + i) 0 + x) (no-more o i)
-        ∙ more-step (j * m) j first first second early (le-refl first) ordered first-room row (omega arith) o i lo li)
+        (both-room first second entered enter-loss facility mid same-length)
+        (λ i l. ap (λ (x : ℕ). getD (both-table first second entered enter-loss facility mid same-length) (256 + i) 0 + min (entry m service j i) (x / 32)) (apart .first)
+        ∙ both-added first second entered enter-loss facility mid same-length shifted i l)
+        (λ o l. ap (λ (x : ℕ). getD (both-table first second entered enter-loss facility mid same-length) (288 + o) 0 + x) (no-loss o)
+        ∙ loss-step (j * m) first first second (le-refl first) ordered row (omega arith) loss o l)
+        (λ o i lo li. ap (λ (x : ℕ). getD (both-table first second entered enter-loss facility mid same-length) (320 + 32 * o + i) 0 + x) (no-more o i)
+        ∙ more-step (j * m) first first second (le-refl first) ordered row (omega arith) loss o i lo li)
       where
-        row : RowShifted service (j * m) (first % 32) (first / 32) (second / 32) before with-first
-        row =
-            record {
-              inside = λ i l. ap (λ (x : ℕ). x + (getD service (j * m + i) 0 - second / 32)) (first-else (320 + 32 * (first % 32) + i) (λ q. omega (arith, early))) ∙ shifted .more i l;
-              below = λ k l h. first-else k (λ q. omega (arith, early)) ∙ shifted .between k l h;
-              above = λ k l. first-else k (λ q. omega (arith, early)) ∙ shifted .above k l;
-            }
+        row : RowShifted service (j * m) entered (first / 32) (second / 32) before (set mid j first)
+        row = both-row first second entered enter-loss facility mid same-length shifted
+
+        loss : LossStored entered enter-loss (set mid j first) (both-table first second entered enter-loss facility mid same-length)
+        loss = both-loss first second entered enter-loss facility mid same-length
+
+        one : secondAt before j ≡ firstAt before j
+        one = apart .second ∙ sym (apart .first)
 
         no-loss : (o : ℕ) → lossOf o (firstAt before j) (secondAt before j) ≡ lossOf o first first
         no-loss o = ap (lossOf o (firstAt before j)) one ∙ one-loss o (firstAt before j) ∙ sym (one-loss o first)
@@ -465,16 +546,50 @@ module _ {m n : ℕ} {service before : List ℕ} (sums : Kept m n service before
             ap (moreOf o (entry m service j i) (firstAt before j)) one ∙ one-more o (entry m service j i) (firstAt before j)
             ∙ sym (one-more o (entry m service j i) first)
 
-        added-moves : (x y c p q : ℕ) → y + (c - q) ≡ x + (c - p) → y + min c p ≡ x + min c q
-        added-moves x y c p q moved = omega (arith, least-fills c p, least-fills c q)
+  -- a client that is not counted any more
+  module _ (mid : List ℕ)
+      (shifted : ShiftedBoth 32 service (j * m) (firstAt before j / 32) 1000000 (secondAt before j / 32) (firstAt before j / 32) before (320 + 32 * (firstAt before j % 32)) mid)
+      (same-length : length mid ≡ length before) where
+    abbrev left : ℕ
+    left = firstAt before j % 32
 
-        added : (i : ℕ) → i < 32 → getD enter-table (256 + i) 0 + min (entry m service j i) (firstAt before j / 32)
-            ≡ getD before (256 + i) 0 + min (entry m service j i) (first / 32)
-        added i l =
-            ap (λ (x : ℕ). x + min (entry m service j i) (firstAt before j / 32))
-            (stored-else with-first first-room j (first % 32) _ second early (omega arith) (256 + i) (λ q. omega (arith, early)) (λ q. omega arith)
-            ∙ first-else (256 + i) (λ q. omega (arith, early)))
-            ∙ added-moves (getD before (256 + i) 0) (getD mid (256 + i) 0) (entry m service j i) (firstAt before j / 32) (first / 32) (shifted .added i l)
+    at-facility : left < 32
+    at-facility = omega arith
+
+    abbrev leave-loss : ℕ
+    leave-loss = getD (set mid j 32000031) (288 + left) 0 + firstAt before j / 32 - secondAt before j / 32
+
+    pub leave-loss-fits : getD (set mid j 32000031) (288 + left) 0 + firstAt before j / 32 < 4294967296
+    leave-loss-fits =
+        omega (
+          arith,
+          loss-as-before 32000031 32000031 left leave-loss at-facility mid same-length shifted,
+          loss-small sums left at-facility,
+          divided-cost (firstAt before j) (le-trans (sums .ordered j client) (sums .within j client)),
+        )
+
+    pub leave-loss-enough : secondAt before j / 32 ≤ getD (set mid j 32000031) (288 + left) 0 + firstAt before j / 32
+    leave-loss-enough =
+        omega (arith, loss-as-before 32000031 32000031 left leave-loss at-facility mid same-length shifted, loss-enough sums j client)
+
+    pub leave-put : PutAt j 32000031 32000031 before (set (set (set mid j 32000031) (288 + firstAt before j % 32) (getD (set mid j 32000031) (288 + firstAt before j % 32) 0 + firstAt before j / 32 - secondAt before j / 32)) (128 + j) 32000031)
+    leave-put = both-put 32000031 32000031 left leave-loss at-facility mid same-length shifted
+
+    pub leave-kept : Kept m n service (set (set (set mid j 32000031) (288 + firstAt before j % 32) (getD (set mid j 32000031) (288 + firstAt before j % 32) 0 + firstAt before j / 32 - secondAt before j / 32)) (128 + j) 32000031)
+    leave-kept =
+        kept-change sums j client 32000031 32000031 _ leave-put (le-refl 32000031) (le-refl 32000031)
+        (both-room 32000031 32000031 left leave-loss at-facility mid same-length)
+        (both-added 32000031 32000031 left leave-loss at-facility mid same-length shifted)
+        (λ o l. loss-step (j * m) (firstAt before j) (secondAt before j) (firstAt before j) (sums .ordered j client) (le-refl (firstAt before j)) row (loss-enough sums j client) loss o l
+        ∙ ap (λ (x : ℕ). getD before (288 + o) 0 + x) (one-loss o (firstAt before j) ∙ sym (one-loss o 32000031)))
+        (λ o i lo li. more-step (j * m) (firstAt before j) (secondAt before j) (firstAt before j) (sums .ordered j client) (le-refl (firstAt before j)) row (loss-enough sums j client) loss o i lo li
+        ∙ ap (λ (x : ℕ). getD before (320 + 32 * o + i) 0 + x) (one-more o (entry m service j i) (firstAt before j) ∙ sym (one-more o (entry m service j i) 32000031)))
+      where
+        row : RowShifted service (j * m) left (secondAt before j / 32) (firstAt before j / 32) before (set mid j 32000031)
+        row = both-row 32000031 32000031 left leave-loss at-facility mid same-length shifted
+
+        loss : LossStored left leave-loss (set mid j 32000031) (both-table 32000031 32000031 left leave-loss at-facility mid same-length)
+        loss = both-loss 32000031 32000031 left leave-loss at-facility mid same-length
 
 -- ---- puts
 

@@ -2,8 +2,15 @@
 use Prim.Native.Nat.{ℕ, _+_, _-_, _*_, _≤_, _<_}
 use native.Mathlib.Nat.{not-suc-le-zero}
 use native.Mathlib.Omega.{arith}
-use mathlib.Core.Path.{_≡_, refl, sym, ap, _∙_}
+use mathlib.Core.Path.{_≡_, refl, sym, ap, ap₂, _∙_}
+use mathlib.Core.Bool.{true, false}
 use mathlib.Core.List.{List}
+use mir.Syntax.{w32}
+use mir.Val.{toZ}
+use mir.ValLaws.{toZ-pos}
+use borrow.Author.Tests.{leb-true, leb-false}
+use lib.Dec.{leb}
+use lib.Signed.{leZ}
 use lib.ListN.{length, getD, set, length-set}
 use lib.Seq.{getD-set-same, getD-set-other}
 use Rattle.model.proofs.LoopLaws.{up-to}
@@ -11,6 +18,18 @@ use Rattle.model.proofs.SumLaws.{sum-none, sum-more, sum-bound}
 use Rattle.sheet.proofs.ShapeLaws.{row-within}
 use Rattle.search.specs.Prices.{Rows, entry}
 use Rattle.search.specs.Shifting.{Shiftable, Shifted, ShiftedBoth, Addable, RowAdded, Aside, NoSums, ColumnSums}
+
+-- ---- costs compared as signed numbers: the order is the same
+
+signed-test : (x y : ℕ) → x ≤ 1000000 → y ≤ 1000000 → leZ (toZ w32 x) (toZ w32 y) ≡ leb x y
+signed-test x y few-x few-y =
+    ap₂ leZ (toZ-pos w32 x (omega arith)) (toZ-pos w32 y (omega arith))
+
+pub signed-le : (x y : ℕ) → x ≤ 1000000 → y ≤ 1000000 → leZ (toZ w32 x) (toZ w32 y) ≡ true → x ≤ y
+signed-le x y few-x few-y e = leb-true x y (sym (signed-test x y few-x few-y) ∙ e)
+
+pub signed-gt : (x y : ℕ) → x ≤ 1000000 → y ≤ 1000000 → leZ (toZ w32 x) (toZ w32 y) ≡ false → y < x
+signed-gt x y few-x few-y e = leb-false x y (sym (signed-test x y few-x few-y) ∙ e)
 
 -- ---- shifting a row
 
@@ -21,11 +40,12 @@ module _ (service : List ℕ) (row plus minus : ℕ) (before : List ℕ) (at : �
   -- what a turn requires of sum i, at the place k
   pub turn-ready : (i k : ℕ) (sums : List ℕ) → k ≡ at + i → i < 32
       → Shiftable service row plus minus before at → Shifted i service row plus minus before at sums
-      → (getD service (row + i) 0 - minus ≤ getD sums k 0 + (getD service (row + i) 0 - plus))
+      → (getD service (row + i) 0 ≤ 1000000) × (plus ≤ 1000000) × (minus ≤ 1000000)
+      × (getD service (row + i) 0 - minus ≤ getD sums k 0 + (getD service (row + i) 0 - plus))
       × (getD sums k 0 + (getD service (row + i) 0 - plus) < 4294967296)
   turn-ready i k sums e l can done =
       let same = done .above k (omega arith) ∙ ap (λ k. getD before k 0) e in
-      (omega (arith, can .enough i l, same), omega (arith, can .small i l, same))
+      (can .costs i l, can .plus-cost, can .minus-cost, omega (arith, can .enough i l, same), omega (arith, can .small i l, same))
 
   -- a turn, with what its call answers
   pub shifted-more : (i k r : ℕ) (sums : List ℕ) → k ≡ at + i → k < length sums → Shifted i service row plus minus before at sums
@@ -53,8 +73,8 @@ module _ (service : List ℕ) (row plus minus : ℕ) (before : List ℕ) (at : �
 
 -- ---- shifting two stretches in one pass
 
-module _ (service : List ℕ) (row last first second : ℕ) (before : List ℕ) (at : ℕ) where
-  pub both-none : ShiftedBoth 0 service row last first second before at before
+module _ (service : List ℕ) (row plus₁ minus₁ plus₂ minus₂ : ℕ) (before : List ℕ) (at : ℕ) where
+  pub both-none : ShiftedBoth 0 service row plus₁ minus₁ plus₂ minus₂ before at before
   both-none =
       record {
         added = λ i l. absurd (not-suc-le-zero l);
@@ -64,23 +84,29 @@ module _ (service : List ℕ) (row last first second : ℕ) (before : List ℕ) 
         above = λ k l. refl;
       }
 
-  module _ (behind : 320 ≤ at) (i : ℕ) (l : i < 32) (kept : List ℕ) (done : ShiftedBoth i service row last first second before at kept) where
-    -- what a turn requires of the one sum
-    pub added-ready : Shiftable service row last first before 256
-        → (getD service (row + i) 0 - first ≤ getD kept (256 + i) 0 + (getD service (row + i) 0 - last))
-        × (getD kept (256 + i) 0 + (getD service (row + i) 0 - last) < 4294967296)
-    added-ready can =
+  module _ (behind : 320 ≤ at) (i : ℕ) (l : i < 32) (kept : List ℕ) (done : ShiftedBoth i service row plus₁ minus₁ plus₂ minus₂ before at kept) where
+    -- what a turn requires of the one sum, where it only falls, no cost being above `plus₁`, and where it only rises
+    pub falls-ready : Shiftable service row plus₁ minus₁ before 256 → 1000000 ≤ plus₁
+        → (getD service (row + i) 0 ≤ 1000000) × (minus₁ ≤ 1000000) × (getD service (row + i) 0 - minus₁ ≤ getD kept (256 + i) 0)
+    falls-ready can high =
         let same = done .between (256 + i) (omega arith) (omega arith) in
-        (omega (arith, can .enough i l, same), omega (arith, can .small i l, same))
+        (can .costs i l, can .minus-cost, omega (arith, can .enough i l, can .costs i l, same))
+
+    pub rises-ready : Shiftable service row plus₁ minus₁ before 256
+        → (getD service (row + i) 0 ≤ 1000000) × (plus₁ ≤ 1000000) × (getD kept (256 + i) 0 + (getD service (row + i) 0 - plus₁) < 4294967296)
+    rises-ready can =
+        let same = done .between (256 + i) (omega arith) (omega arith) in
+        (can .costs i l, can .plus-cost, omega (arith, can .small i l, same))
 
     module _ (r : ℕ) where
       -- and of the other one, once the one is stored
-      pub more-ready : Shiftable service row first second before at
-          → (getD service (row + i) 0 - second ≤ getD (set kept (256 + i) r) (at + i) 0 + (getD service (row + i) 0 - first))
-          × (getD (set kept (256 + i) r) (at + i) 0 + (getD service (row + i) 0 - first) < 4294967296)
+      pub more-ready : Shiftable service row plus₂ minus₂ before at
+          → (getD service (row + i) 0 ≤ 1000000) × (plus₂ ≤ 1000000) × (minus₂ ≤ 1000000)
+          × (getD service (row + i) 0 - minus₂ ≤ getD (set kept (256 + i) r) (at + i) 0 + (getD service (row + i) 0 - plus₂))
+          × (getD (set kept (256 + i) r) (at + i) 0 + (getD service (row + i) 0 - plus₂) < 4294967296)
       more-ready can =
           let same = getD-set-other kept (256 + i) (at + i) r 0 (λ q. omega arith) ∙ done .above (at + i) (omega arith) in
-          (omega (arith, can .enough i l, same), omega (arith, can .small i l, same))
+          (can .costs i l, can .plus-cost, can .minus-cost, omega (arith, can .enough i l, same), omega (arith, can .small i l, same))
 
       -- a turn, with what its calls answer
       module _ (t : ℕ) where
@@ -92,27 +118,27 @@ module _ (service : List ℕ) (row last first second : ℕ) (before : List ℕ) 
         elsewhere k ne other = getD-set-other (set kept (256 + i) r) (at + i) k t 0 other ∙ getD-set-other kept (256 + i) k r 0 ne
 
         pub both-more : at + 32 ≤ length kept
-            → r + (getD service (row + i) 0 - first) ≡ getD kept (256 + i) 0 + (getD service (row + i) 0 - last)
-            → t + (getD service (row + i) 0 - second) ≡ getD (set kept (256 + i) r) (at + i) 0 + (getD service (row + i) 0 - first)
-            → ShiftedBoth (i + 1) service row last first second before at (set (set kept (256 + i) r) (at + i) t)
+            → r + (getD service (row + i) 0 - minus₁) ≡ getD kept (256 + i) 0 + (getD service (row + i) 0 - plus₁)
+            → t + (getD service (row + i) 0 - minus₂) ≡ getD (set kept (256 + i) r) (at + i) 0 + (getD service (row + i) 0 - plus₂)
+            → ShiftedBoth (i + 1) service row plus₁ minus₁ plus₂ minus₂ before at (set (set kept (256 + i) r) (at + i) t)
         unfolding after
         both-more room answer other =
             record {
               added =
                   λ a b. up-to
-                  (λ a. getD after (256 + a) 0 + (getD service (row + a) 0 - first) ≡ getD before (256 + a) 0 + (getD service (row + a) 0 - last)) i
-                  (λ a b. ap (λ (x : ℕ). x + (getD service (row + a) 0 - first)) (elsewhere (256 + a) (λ q. omega arith) (λ q. omega arith))
+                  (λ a. getD after (256 + a) 0 + (getD service (row + a) 0 - minus₁) ≡ getD before (256 + a) 0 + (getD service (row + a) 0 - plus₁)) i
+                  (λ a b. ap (λ (x : ℕ). x + (getD service (row + a) 0 - minus₁)) (elsewhere (256 + a) (λ q. omega arith) (λ q. omega arith))
                   ∙ done .added a b)
-                  (ap (λ (x : ℕ). x + (getD service (row + i) 0 - first)) one
-                  ∙ answer ∙ ap (λ (x : ℕ). x + (getD service (row + i) 0 - last)) (done .between (256 + i) (omega arith) (omega arith)))
+                  (ap (λ (x : ℕ). x + (getD service (row + i) 0 - minus₁)) one
+                  ∙ answer ∙ ap (λ (x : ℕ). x + (getD service (row + i) 0 - plus₁)) (done .between (256 + i) (omega arith) (omega arith)))
                   a (omega arith);
               more =
                   λ a b. up-to
-                  (λ a. getD after (at + a) 0 + (getD service (row + a) 0 - second) ≡ getD before (at + a) 0 + (getD service (row + a) 0 - first)) i
-                  (λ a b. ap (λ (x : ℕ). x + (getD service (row + a) 0 - second)) (elsewhere (at + a) (λ q. omega arith) (λ q. omega arith))
+                  (λ a. getD after (at + a) 0 + (getD service (row + a) 0 - minus₂) ≡ getD before (at + a) 0 + (getD service (row + a) 0 - plus₂)) i
+                  (λ a b. ap (λ (x : ℕ). x + (getD service (row + a) 0 - minus₂)) (elsewhere (at + a) (λ q. omega arith) (λ q. omega arith))
                   ∙ done .more a b)
-                  (ap (λ (x : ℕ). x + (getD service (row + i) 0 - second)) (getD-set-same (set kept (256 + i) r) (at + i) t 0 (rw length-set (omega arith)))
-                  ∙ other ∙ ap (λ (x : ℕ). x + (getD service (row + i) 0 - first)) two)
+                  (ap (λ (x : ℕ). x + (getD service (row + i) 0 - minus₂)) (getD-set-same (set kept (256 + i) r) (at + i) t 0 (rw length-set (omega arith)))
+                  ∙ other ∙ ap (λ (x : ℕ). x + (getD service (row + i) 0 - plus₂)) two)
                   a (omega arith);
               below = λ k b. elsewhere k (λ q. omega arith) (λ q. omega arith) ∙ done .below k b;
               between = λ k b h. elsewhere k (λ q. omega arith) (λ q. omega arith) ∙ done .between k (omega arith) h;

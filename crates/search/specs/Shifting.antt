@@ -6,8 +6,11 @@ use lib.ListN.{length, getD}
 use Rattle.model.specs.Loops.{sum}
 use Rattle.search.specs.Prices.{entry}
 
--- The 32 sums from `at` on can each take on what its cost is above `plus`, and then give what it is above `minus`.
+-- The 32 sums from `at` on can each take on what its cost is above `plus`, and then give what it is above `minus`; all of these are costs.
 pub record Shiftable (service : List ℕ) (row plus minus : ℕ) (sums : List ℕ) (at : ℕ) : Type 0 where
+  pub costs : (i : ℕ) → i < 32 → getD service (row + i) 0 ≤ 1000000
+  pub plus-cost : plus ≤ 1000000
+  pub minus-cost : minus ≤ 1000000
   pub row-room : row + 32 ≤ length service
   pub room : at + 32 ≤ length sums
   pub enough : (i : ℕ) → i < 32 → getD service (row + i) 0 - minus ≤ getD sums (at + i) 0 + (getD service (row + i) 0 - plus)
@@ -22,11 +25,11 @@ pub record Shifted (count : ℕ) (service : List ℕ) (row plus minus : ℕ) (be
 
 -- Of the 32 sums from 256 on and those from `at` on, which lie behind them, so many have been shifted, each stretch by its own two
 -- costs; the other places are as they were.
-pub record ShiftedBoth (count : ℕ) (service : List ℕ) (row last first second : ℕ) (before : List ℕ) (at : ℕ) (after : List ℕ) : Type 0 where
+pub record ShiftedBoth (count : ℕ) (service : List ℕ) (row plus₁ minus₁ plus₂ minus₂ : ℕ) (before : List ℕ) (at : ℕ) (after : List ℕ) : Type 0 where
   pub added : (i : ℕ) → i < count
-      → getD after (256 + i) 0 + (getD service (row + i) 0 - first) ≡ getD before (256 + i) 0 + (getD service (row + i) 0 - last)
+      → getD after (256 + i) 0 + (getD service (row + i) 0 - minus₁) ≡ getD before (256 + i) 0 + (getD service (row + i) 0 - plus₁)
   pub more : (i : ℕ) → i < count
-      → getD after (at + i) 0 + (getD service (row + i) 0 - second) ≡ getD before (at + i) 0 + (getD service (row + i) 0 - first)
+      → getD after (at + i) 0 + (getD service (row + i) 0 - minus₂) ≡ getD before (at + i) 0 + (getD service (row + i) 0 - plus₂)
   pub below : (k : ℕ) → k < 256 → getD after k 0 ≡ getD before k 0
   pub between : (k : ℕ) → 256 + count ≤ k → k < at → getD after k 0 ≡ getD before k 0
   pub above : (k : ℕ) → at + count ≤ k → getD after k 0 ≡ getD before k 0

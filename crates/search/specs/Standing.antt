@@ -44,10 +44,15 @@ pub record NearFrom (m n : ℕ) (service kept : List ℕ) (set next j : ℕ) : T
   pub moved : (k : ℕ) → k < j → NearAt m service kept next k
   pub waiting : (k : ℕ) → j ≤ k → k < n → NearAt m service kept set k
 
--- the clients below j stand by a set, of those from j on the two are the same
+-- client j is not counted: what stands for a missing facility is both its nearest
+pub record Uncounted (kept : List ℕ) (j : ℕ) : Type 0 where
+  pub first : firstAt kept j ≡ 32000031
+  pub second : secondAt kept j ≡ 32000031
+
+-- the clients below j stand by a set, those from j on are not counted
 pub record NearUpTo (m n : ℕ) (service kept : List ℕ) (set j : ℕ) : Type 0 where
   pub begun : (k : ℕ) → k < j → NearAt m service kept set k
-  pub waiting : (k : ℕ) → j ≤ k → k < n → secondAt kept k ≡ firstAt kept k
+  pub waiting : (k : ℕ) → j ≤ k → k < n → Uncounted kept k
 
 -- the two places of every other client are as they were
 pub record Others (j : ℕ) (before after : List ℕ) : Type 0 where

@@ -4,8 +4,8 @@ ghost use mathlib.Core.Bool.{true};
 ghost use Prim.Native.Nat.{_^_, _<_};
 ghost use Rattle.model.specs.Least.{any};
 ghost use Rattle.model.specs.Sets.{member};
-ghost use Rattle.search.specs.Prices.{Kept, firstAt, secondAt, NearAt, Moved, newIn};
-ghost use Rattle.search.specs.Standing.{Standing, Listed, NearUpTo, NearFrom, Others, keeps};
+ghost use Rattle.search.specs.Prices.{Kept, NearAt, Moved, newIn};
+ghost use Rattle.search.specs.Standing.{Standing, Listed, Uncounted, NearUpTo, NearFrom, Others, keeps};
 use crate::near::Near;
 use crate::near::SECONDS;
 use crate::near::arrival;
@@ -27,7 +27,7 @@ fn begin_client(
     count: usize,
     kept: &mut [u32],
 )
-    requires { ⌜ Kept m n (now service) (now kept) × (j < n) × (secondAt (now kept) j ≡ firstAt (now kept) j) × (set < 2 ^ m) × Listed set (now list) count ⌝ }
+    requires { ⌜ Kept m n (now service) (now kept) × (j < n) × Uncounted (now kept) j × (set < 2 ^ m) × Listed set (now list) count ⌝ }
     ensures kept { λ _. ⌜ Kept m n (now (service .entry)) (now (kept .exit)) ⌝ }
     ensures near { λ _. ⌜ NearAt m (now (service .entry)) (now (kept .exit)) set j ⌝ }
     ensures others { λ _. ⌜ Others j (now (kept .entry)) (now (kept .exit)) ⌝ }

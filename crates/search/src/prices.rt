@@ -2,25 +2,31 @@
 ghost use mathlib.Core.Path.{_≡_};
 ghost use Prim.Native.Nat.{_+_, _-_, _≤_, _<_};
 ghost use lib.ListN.{length};
-ghost use Rattle.search.specs.Prices.{Rows, InOrder, Kept, firstAt, secondAt};
+ghost use Rattle.search.specs.Prices.{Rows, InOrder, Kept, firstAt};
 ghost use Rattle.search.specs.Shifting.{Shiftable, Shifted, ShiftedBoth, Addable, RowAdded, Aside, NoSums, ColumnSums};
-ghost use Rattle.search.specs.Standing.{PutAt};
+ghost use Rattle.search.specs.Standing.{PutAt, Uncounted};
 use crate::near::ADDED;
+use crate::near::FARTHEST;
 use crate::near::LOSS;
 use crate::near::MORE;
 use crate::near::Near;
 use crate::near::SECONDS;
 
-// What a cost is above another one.
+// What a cost is above another one. Every x86-64 processor compares signed numbers by vector, unsigned ones not.
 fn over(cost: u32, other: u32) -> u32
+    requires { ⌜ (cost ≤ 1000000) × (other ≤ 1000000) ⌝ }
     ensures { λ r. ⌜ r ≡ cost - other ⌝ }
 {
-    if cost <= other { 0 } else { cost - other }
+    if (cost as i32) <= (other as i32) {
+        0
+    } else {
+        cost - other
+    }
 }
 
 // A sum with what the cost is above `plus`, and without what it is above `minus`.
 fn moved(sum: u32, cost: u32, plus: u32, minus: u32) -> u32
-    requires { ⌜ (cost - minus ≤ sum + (cost - plus)) × (sum + (cost - plus) < 4294967296) ⌝ }
+    requires { ⌜ (cost ≤ 1000000) × (plus ≤ 1000000) × (minus ≤ 1000000) × (cost - minus ≤ sum + (cost - plus)) × (sum + (cost - plus) < 4294967296) ⌝ }
     ensures { λ r. ⌜ r + (cost - minus) ≡ sum + (cost - plus) ⌝ }
 {
     sum + over(cost, plus) - over(cost, minus)
@@ -38,24 +44,46 @@ fn shift(service: &[u32], row: usize, plus: u32, minus: u32, kept: &mut [u32], a
     }
 }
 
-// The same for the service costs with each facility added and for a stretch behind them, in one pass.
-fn shift_both(
-    service: &[u32],
-    row: usize,
-    last: u32,
-    first: u32,
-    second: u32,
-    kept: &mut [u32],
-    at: usize,
-)
-    requires { ⌜ Shiftable (now service) row last first (now kept) 256 × Shiftable (now service) row first second (now kept) at × (320 ≤ at) ⌝ }
-    ensures { λ _. ⌜ ShiftedBoth 32 (now (service .entry)) row last first second (now (kept .entry)) at (now (kept .exit)) ⌝ }
+// A sum without what the cost is above another one, and with it.
+fn lowered(sum: u32, cost: u32, other: u32) -> u32
+    requires { ⌜ (cost ≤ 1000000) × (other ≤ 1000000) × (cost - other ≤ sum) ⌝ }
+    ensures { λ r. ⌜ r + (cost - other) ≡ sum ⌝ }
+{
+    sum - over(cost, other)
+}
+
+fn raised(sum: u32, cost: u32, other: u32) -> u32
+    requires { ⌜ (cost ≤ 1000000) × (other ≤ 1000000) × (sum + (cost - other) < 4294967296) ⌝ }
+    ensures { λ r. ⌜ r ≡ sum + (cost - other) ⌝ }
+{
+    sum + over(cost, other)
+}
+
+// Counts a client in: the service costs with each facility added come down to its nearest one, and the 32 sums of that facility take on what
+// the client pays more without it.
+fn shift_in(service: &[u32], row: usize, first: u32, second: u32, kept: &mut [u32], at: usize)
+    requires { ⌜ Shiftable (now service) row 1000000 first (now kept) 256 × Shiftable (now service) row first second (now kept) at × (320 ≤ at) ⌝ }
+    ensures { λ _. ⌜ ShiftedBoth 32 (now (service .entry)) row 1000000 first first second (now (kept .entry)) at (now (kept .exit)) ⌝ }
 {
     let mut i = 0;
     while i < 32 {
         let cost = service[row + i];
-        kept[ADDED + i] = moved(kept[ADDED + i], cost, last, first);
+        kept[ADDED + i] = lowered(kept[ADDED + i], cost, first);
         kept[at + i] = moved(kept[at + i], cost, first, second);
+        i += 1;
+    }
+}
+
+// Counts it out again.
+fn shift_out(service: &[u32], row: usize, first: u32, second: u32, kept: &mut [u32], at: usize)
+    requires { ⌜ Shiftable (now service) row first 1000000 (now kept) 256 × Shiftable (now service) row second first (now kept) at × (320 ≤ at) ⌝ }
+    ensures { λ _. ⌜ ShiftedBoth 32 (now (service .entry)) row first 1000000 second first (now (kept .entry)) at (now (kept .exit)) ⌝ }
+{
+    let mut i = 0;
+    while i < 32 {
+        let cost = service[row + i];
+        kept[ADDED + i] = raised(kept[ADDED + i], cost, first);
+        kept[at + i] = moved(kept[at + i], cost, second, first);
         i += 1;
     }
 }
@@ -81,27 +109,34 @@ pub(crate) fn set_second(
     kept[SECONDS + j] = second;
 }
 
-// Client j, whose two were one and the same, has these two now.
+// Client j, which is not counted, has these two now.
 pub(crate) fn enter(service: &[u32], m: usize, n: usize, j: usize, near: Near, kept: &mut [u32])
-    requires { ⌜ Kept m n (now service) (now kept) × (j < n) × (secondAt (now kept) j ≡ firstAt (now kept) j) × InOrder near ⌝ }
+    requires { ⌜ Kept m n (now service) (now kept) × (j < n) × Uncounted (now kept) j × InOrder near ⌝ }
     ensures kept { λ _. ⌜ Kept m n (now (service .entry)) (now (kept .exit)) ⌝ }
     ensures put { λ _. ⌜ PutAt j (near .first) (near .second) (now (kept .entry)) (now (kept .exit)) ⌝ }
 {
     let o = (near.first % 32) as usize;
     let first = near.first / 32;
     let second = near.second / 32;
-    shift_both(
-        service,
-        j * m,
-        kept[j] / 32,
-        first,
-        second,
-        kept,
-        MORE + 32 * o,
-    );
+    shift_in(service, j * m, first, second, kept, MORE + 32 * o);
     kept[j] = near.first;
     kept[LOSS + o] = kept[LOSS + o] + second - first;
     kept[SECONDS + j] = near.second;
+}
+
+// Client j is not counted any more.
+fn leave(service: &[u32], m: usize, n: usize, j: usize, kept: &mut [u32])
+    requires { ⌜ Kept m n (now service) (now kept) × (j < n) ⌝ }
+    ensures kept { λ _. ⌜ Kept m n (now (service .entry)) (now (kept .exit)) ⌝ }
+    ensures put { λ _. ⌜ PutAt j 32000031 32000031 (now (kept .entry)) (now (kept .exit)) ⌝ }
+{
+    let o = (kept[j] % 32) as usize;
+    let first = kept[j] / 32;
+    let second = kept[SECONDS + j] / 32;
+    shift_out(service, j * m, first, second, kept, MORE + 32 * o);
+    kept[j] = FARTHEST;
+    kept[LOSS + o] = kept[LOSS + o] + first - second;
+    kept[SECONDS + j] = FARTHEST;
 }
 
 // Client j's two nearest are now these.
@@ -110,11 +145,10 @@ pub(crate) fn change(service: &[u32], m: usize, n: usize, j: usize, near: Near, 
     ensures kept { λ _. ⌜ Kept m n (now (service .entry)) (now (kept .exit)) ⌝ }
     ensures put { λ _. ⌜ PutAt j (near .first) (near .second) (now (kept .entry)) (now (kept .exit)) ⌝ }
 {
-    let first = kept[j];
-    if first == near.first {
+    if kept[j] == near.first {
         set_second(service, m, n, j, near.second, kept);
     } else {
-        set_second(service, m, n, j, first, kept);
+        leave(service, m, n, j, kept);
         enter(service, m, n, j, near, kept);
     }
 }

@@ -1,23 +1,20 @@
--- `prices::change` meets its contract: the second alone, or the second to the first and then both.
-use native.Mathlib.Nat.{le-refl, le-trans}
+-- `prices::change` meets its contract: the second alone, or the client counted out and in again.
 use Rattle.search.proofs.KeptLaws.{put-as, put-again}
 use borrow.Author.Needs.{needs}
 use Rattle.search.proofs.prices.change.Statement.{statement}
 use Rattle.search.proofs.prices.change.Tie as tie
 
-mul-first : tie.Need-mul-first
-mul-first c = search needs
+mul-if1 : tie.Need-mul-if1
+mul-if1 c = search needs
 
-slice-read-first : tie.Need-slice-read-first
-slice-read-first c = search needs
+slice-read-if1 : tie.Need-slice-read-if1
+slice-read-if1 c = search needs
 
 set-second-requires : tie.Need-set-second-requires
 set-second-requires c κs = search needs
 
-set-second-requires-2 : tie.Need-set-second-requires-2
-set-second-requires-2 c κs = let s = c .before .before .before .before .before .before in
-    let sums = s .pre .0 in
-    (sums, s .pre .1, le-refl _, le-trans (sums .ordered _ (s .pre .1)) (sums .within _ (s .pre .1)))
+leave-requires : tie.Need-leave-requires
+leave-requires c κs = search needs
 
 enter-requires : tie.Need-enter-requires
 enter-requires c κs = search needs
@@ -33,16 +30,16 @@ same-length-2 c = search needs
 
 returns-2 : tie.Need-returns-2
 returns-2 c = let answer = c .before .before .enter .ensures in
-    (answer .0, put-again (c .before .before .before .before .before .before .set-second2 .ensures .1) (answer .1))
+    (answer .0, put-again (c .before .before .before .before .before .before .leave .ensures .1) (answer .1))
 
 pub change-spec : {M : Type 1} → statement M
 change-spec =
     tie.close
     (tie.spec
-    mul-first
-    slice-read-first
+    mul-if1
+    slice-read-if1
     set-second-requires
-    set-second-requires-2
+    leave-requires
     enter-requires
     same-length
     returns

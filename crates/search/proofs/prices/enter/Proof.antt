@@ -1,4 +1,4 @@
--- `prices::enter` meets its contract: the laws of the sums that are kept, with what `shift_both` answers.
+-- `prices::enter` meets its contract: the laws of the sums that are kept, with what `shift_in` answers.
 use native.Mathlib.Omega.{arith}
 use lib.ListN.{length-set}
 use Rattle.search.proofs.KeptLaws.{kept-row-small, enter-ready, enter-loss-fits, enter-put, enter-kept}
@@ -9,24 +9,19 @@ use Rattle.search.proofs.prices.enter.Tie as tie
 cast-o : tie.Need-cast-o
 cast-o c = search needs
 
-mul-shift-both : tie.Need-mul-shift-both
-mul-shift-both c = let s = c .before .before .before .before .before in omega (arith, kept-row-small (s .pre .0) (s .args .j) (s .pre .1))
+mul-shift-in : tie.Need-mul-shift-in
+mul-shift-in c = let s = c .before .before .before .before .before in omega (arith, kept-row-small (s .pre .0) (s .args .j) (s .pre .1))
 
-mul-shift-both-2 : tie.Need-mul-shift-both-2
-mul-shift-both-2 c = search needs
+mul-shift-in-2 : tie.Need-mul-shift-in-2
+mul-shift-in-2 c = search needs
 
-slice-read-shift-both : tie.Need-slice-read-shift-both
-slice-read-shift-both c = search needs
+add-shift-in : tie.Need-add-shift-in
+add-shift-in c = search needs
 
-mul-shift-both-3 : tie.Need-mul-shift-both-3
-mul-shift-both-3 c = search needs
-
-add-shift-both : tie.Need-add-shift-both
-add-shift-both c = search needs
-
-shift-both-requires : tie.Need-shift-both-requires
-shift-both-requires c κs = let s = c .before .before .before .before .before .before .before in
-    enter-ready (s .pre .0) (s .args .j) (s .pre .1) (s .args .near .first) (s .args .near .second) (s .pre .3 .ordered)
+shift-in-requires : tie.Need-shift-in-requires
+shift-in-requires c κs = let s = c .before .before .before .before .before .before in
+    let near = s .args .near in
+    enter-ready (s .pre .0) (s .args .j) (s .pre .1) (near .first) (near .second) (s .pre .3 .ordered) (s .pre .3 .within) (s .pre .2)
 
 mul-kept : tie.Need-mul-kept
 mul-kept c = search needs
@@ -41,17 +36,16 @@ mul-kept-2 : tie.Need-mul-kept-2
 mul-kept-2 c = search needs
 
 slice-read-kept : tie.Need-slice-read-kept
-slice-read-kept c = let s = c .before .before .before .before .before .before .before .before .before .before .before in
+slice-read-kept c = let s = c .before .before .before .before .before .before .before .before .before .before in
     simp length-set (omega (arith, s .pre .0 .room))
 
 add-kept-2 : tie.Need-add-kept-2
-add-kept-2 c = let s = c .before .before .before .before .before .before .before .before .before .before .before in
+add-kept-2 c = let s = c .before .before .before .before .before .before .before .before .before .before in
     let near = s .args .near in
-    let shifted = c .before .before .before .shift-both .ensures in
     record {
       fits =
           enter-loss-fits (s .pre .0) (s .args .j) (s .pre .1) (near .first) (near .second) (s .pre .3 .ordered) (s .pre .3 .within) (s .pre .2) _
-          shifted (omega arith);
+          (c .before .before .before .shift-in .ensures) (omega arith);
     }
 
 sub-kept : tie.Need-sub-kept
@@ -64,7 +58,7 @@ mul-kept-3 : tie.Need-mul-kept-3
 mul-kept-3 c = search needs
 
 slice-write-kept-2 : tie.Need-slice-write-kept-2
-slice-write-kept-2 c = let s = c .before .before .before .before .before .before .before .before .before .before .before in
+slice-write-kept-2 c = let s = c .before .before .before .before .before .before .before .before .before .before in
     simp length-set (omega (arith, s .pre .0 .room))
 
 add-kept-4 : tie.Need-add-kept-4
@@ -74,16 +68,16 @@ mul-kept-4 : tie.Need-mul-kept-4
 mul-kept-4 c = search needs
 
 slice-write-kept-3 : tie.Need-slice-write-kept-3
-slice-write-kept-3 c = let s = c .before .before .before .before .before .before .before .before .before .before .before in
+slice-write-kept-3 c = let s = c .before .before .before .before .before .before .before .before .before .before in
     simp length-set (omega (arith, s .pre .0 .room, s .pre .0 .rows .few-clients))
 
 same-length : tie.Need-same-length
 same-length c = search needs
 
 returns : tie.Need-returns
-returns c = let s = c .before .before .before .before .before .before .before .before .before .before .before in
+returns c = let s = c .before .before .before .before .before .before .before .before .before .before in
     let near = s .args .near in
-    let shifted = c .before .before .before .shift-both .ensures in (
+    let shifted = c .before .before .before .shift-in .ensures in (
       enter-kept (s .pre .0) (s .args .j) (s .pre .1) (near .first) (near .second) (s .pre .3 .ordered) (s .pre .3 .within) (s .pre .2) _
           shifted (omega arith),
       enter-put (s .pre .0) (s .args .j) (s .pre .1) (near .first) (near .second) (s .pre .3 .ordered) (s .pre .3 .within) (s .pre .2) _
@@ -95,12 +89,10 @@ enter-spec =
     tie.close
     (tie.spec
     cast-o
-    mul-shift-both
-    mul-shift-both-2
-    slice-read-shift-both
-    mul-shift-both-3
-    add-shift-both
-    shift-both-requires
+    mul-shift-in
+    mul-shift-in-2
+    add-shift-in
+    shift-in-requires
     mul-kept
     slice-write-kept
     add-kept

@@ -35,7 +35,7 @@ add-shift c = search needs
 
 shift-requires : tie.Need-shift-requires
 shift-requires c κs = let s = c .before .before .before .before .before in
-    second-ready (s .pre .0) (s .args .j) (s .pre .1) (s .args .second) (s .pre .2)
+    second-ready (s .pre .0) (s .args .j) (s .pre .1) (s .args .second) (s .pre .2) (s .pre .3)
 
 add-kept : tie.Need-add-kept
 add-kept c = search needs

@@ -1,22 +1,23 @@
--- `prices::shift_both` meets its contract. The invariant is that of `shift`, for each of the two stretches.
+-- `prices::shift_out` meets its contract. The invariant is that of `shift`, for each of the two stretches.
 use mathlib.Core.Path.{_≡_, refl}
 use Prim.Native.Nat.{_≤_, _-_}
+use native.Mathlib.Nat.{le-refl}
 use native.Mathlib.Omega.{arith}
 use lib.ListN.{length, length-set}
 use Rattle.search.specs.Shifting.{ShiftedBoth}
-use Rattle.search.proofs.ShiftingLaws.{both-none, added-ready, more-ready, both-more}
-use Rattle.search.proofs.prices.shift_both.Statement.{statement}
-use Rattle.search.proofs.prices.shift_both.Tie as tie
+use Rattle.search.proofs.ShiftingLaws.{both-none, rises-ready, more-ready, both-more}
+use Rattle.search.proofs.prices.shift_out.Statement.{statement}
+use Rattle.search.proofs.prices.shift_out.Tie as tie
 
 abbrev Inv-loop : tie.InvT-loop
-Inv-loop service row last first second kept₀ at i₀ kept i = (i ≤ 32) × (length kept ≡ length kept₀) × ShiftedBoth i service row last first second kept₀ at kept
+Inv-loop service row first second kept₀ at i₀ kept i = (i ≤ 32) × (length kept ≡ length kept₀) × ShiftedBoth i service row first 1000000 second first kept₀ at kept
 
 abbrev μ-loop : tie.MeasureT-loop
-μ-loop service row last first second kept₀ at i₀ kept i = 32 - i
+μ-loop service row first second kept₀ at i₀ kept i = 32 - i
 
 loop-holds : tie.Need-loop-holds Inv-loop μ-loop
 loop-holds c = let a = c .before .before .args in
-    (omega arith, refl, both-none (a .service .now) (a .row) (a .last) (a .first) (a .second) (a .kept .now) (a .at))
+    (omega arith, refl, both-none (a .service .now) (a .row) (a .first) 1000000 (a .second) (a .first) (a .kept .now) (a .at))
 
 add-cost : tie.Need-add-cost Inv-loop μ-loop
 add-cost c = omega arith
@@ -27,20 +28,20 @@ mul-cost c = omega arith
 shared-slice-read-cost : tie.Need-shared-slice-read-cost Inv-loop μ-loop
 shared-slice-read-cost c = omega arith
 
-add-moved : tie.Need-add-moved Inv-loop μ-loop
-add-moved c = omega arith
+add-raised : tie.Need-add-raised Inv-loop μ-loop
+add-raised c = omega arith
 
-mul-moved : tie.Need-mul-moved Inv-loop μ-loop
-mul-moved c = omega arith
+mul-raised : tie.Need-mul-raised Inv-loop μ-loop
+mul-raised c = omega arith
 
-slice-read-moved : tie.Need-slice-read-moved Inv-loop μ-loop
-slice-read-moved c = omega arith
+slice-read-raised : tie.Need-slice-read-raised Inv-loop μ-loop
+slice-read-raised c = omega arith
 
-moved-requires : tie.Need-moved-requires Inv-loop μ-loop
-moved-requires c κs = let s = c .before .before .before .before .before .before in
+raised-requires : tie.Need-raised-requires Inv-loop μ-loop
+raised-requires c κs = let s = c .before .before .before .before .before .before in
     let l = c .before .before .before .loop in
     let a = s .args in
-    added-ready (a .service .now) (a .row) (a .last) (a .first) (a .second) (a .kept .now) (a .at) (s .pre .2) (l .i) (omega arith) (l .kept)
+    rises-ready (a .service .now) (a .row) (a .first) 1000000 (a .second) (a .first) (a .kept .now) (a .at) (s .pre .2) (l .i) (omega arith) (l .kept)
     (l .inv .2) (s .pre .0)
 
 add-kept : tie.Need-add-kept Inv-loop μ-loop
@@ -52,20 +53,20 @@ mul-kept c = omega arith
 slice-write-kept : tie.Need-slice-write-kept Inv-loop μ-loop
 slice-write-kept c = omega arith
 
-add-moved-2 : tie.Need-add-moved-2 Inv-loop μ-loop
-add-moved-2 c = omega arith
+add-moved : tie.Need-add-moved Inv-loop μ-loop
+add-moved c = omega arith
 
-mul-moved-2 : tie.Need-mul-moved-2 Inv-loop μ-loop
-mul-moved-2 c = omega arith
+mul-moved : tie.Need-mul-moved Inv-loop μ-loop
+mul-moved c = omega arith
 
-slice-read-moved-2 : tie.Need-slice-read-moved-2 Inv-loop μ-loop
-slice-read-moved-2 c = simp length-set (omega arith)
+slice-read-moved : tie.Need-slice-read-moved Inv-loop μ-loop
+slice-read-moved c = simp length-set (omega arith)
 
-moved-requires-2 : tie.Need-moved-requires-2 Inv-loop μ-loop
-moved-requires-2 c κs = let s = c .before .before .before .before .before .before .before .before in
+moved-requires : tie.Need-moved-requires Inv-loop μ-loop
+moved-requires c κs = let s = c .before .before .before .before .before .before .before .before in
     let l = c .before .before .before .before .before .loop in
     let a = s .args in
-    more-ready (a .service .now) (a .row) (a .last) (a .first) (a .second) (a .kept .now) (a .at) (s .pre .2) (l .i) (omega arith) (l .kept)
+    more-ready (a .service .now) (a .row) (a .first) 1000000 (a .second) (a .first) (a .kept .now) (a .at) (s .pre .2) (l .i) (omega arith) (l .kept)
     (l .inv .2) _ (s .pre .1)
 
 add-kept-2 : tie.Need-add-kept-2 Inv-loop μ-loop
@@ -89,8 +90,8 @@ loop-again c = let s = c .before .before .before .before .before .before .before
     let l = c .before .before .before .before .before .before .loop in (
       omega arith,
       simp length-set (l .inv .1),
-      both-more (a .service .now) (a .row) (a .last) (a .first) (a .second) (a .kept .now) (a .at) (s .pre .2) (l .i) (omega arith) (l .kept)
-          (l .inv .2) _ _ (omega arith) (c .before .before .moved .ensures) (c .moved2 .ensures),
+      both-more (a .service .now) (a .row) (a .first) 1000000 (a .second) (a .first) (a .kept .now) (a .at) (s .pre .2) (l .i) (omega arith) (l .kept)
+          (l .inv .2) _ _ (omega arith) (omega (arith, s .pre .0 .costs (l .i) (omega arith), c .before .before .raised .ensures)) (c .moved .ensures),
     )
 
 same-length : tie.Need-same-length Inv-loop μ-loop
@@ -99,8 +100,8 @@ same-length c = c .before .loop .inv .1
 returns : tie.Need-returns Inv-loop μ-loop
 returns c = let e : c .before .loop .i ≡ 32 = omega arith in rw e at (c .before .loop .inv .2)
 
-pub shift-both-spec : {M : Type 1} → statement M
-shift-both-spec =
+pub shift-out-spec : {M : Type 1} → statement M
+shift-out-spec =
     tie.close
     (tie.spec
     Inv-loop
@@ -109,17 +110,17 @@ shift-both-spec =
     add-cost
     mul-cost
     shared-slice-read-cost
+    add-raised
+    mul-raised
+    slice-read-raised
+    raised-requires
+    add-kept
+    mul-kept
+    slice-write-kept
     add-moved
     mul-moved
     slice-read-moved
     moved-requires
-    add-kept
-    mul-kept
-    slice-write-kept
-    add-moved-2
-    mul-moved-2
-    slice-read-moved-2
-    moved-requires-2
     add-kept-2
     mul-kept-2
     slice-write-kept-2

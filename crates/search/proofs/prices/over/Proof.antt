@@ -1,0 +1,26 @@
+-- `prices::over` meets its contract: costs have the same order as signed numbers.
+use native.Mathlib.Omega.{arith}
+use Rattle.search.proofs.ShiftingLaws.{signed-le, signed-gt}
+use borrow.Author.Needs.{needs}
+use Rattle.search.proofs.prices.over.Statement.{statement}
+use Rattle.search.proofs.prices.over.Tie as tie
+
+cast-if1 : tie.Need-cast-if1
+cast-if1 c = search needs
+
+cast-if1-2 : tie.Need-cast-if1-2
+cast-if1-2 c = search needs
+
+sub-result : tie.Need-sub-result
+sub-result c = let s = c .before in
+    omega (arith, signed-gt (s .args .cost) (s .args .other) (s .pre .0) (s .pre .1) (c .if1 .left))
+
+returns : tie.Need-returns
+returns c = let s = c .before in
+    omega (arith, signed-le (s .args .cost) (s .args .other) (s .pre .0) (s .pre .1) (c .if1 .taken))
+
+returns-2 : tie.Need-returns-2
+returns-2 c = search needs
+
+pub over-spec : {M : Type 1} → statement M
+over-spec = tie.close (tie.spec cast-if1 cast-if1-2 sub-result returns returns-2)
