@@ -1,7 +1,8 @@
 // Pricing: the nearest open yard of each farm, what a set of yards costs, and the plan of it in the caller's area.
 //
 // `price` asks questions 1 to 6, 8 and 9 of document 01 and writes the plan of the set that it is given. `write_plan`, with
-// `plan_fits`, writes the plan of any set for callers that have read the sheet. Every call is total.
+// `plan_fits`, writes the plan of any set for callers that have read the sheet, and `write_plan_by` for those that know each farm's
+// nearest yard too. Every call is total.
 mod nearest;
 mod plan;
 
@@ -13,6 +14,7 @@ pub use plan::KIND_OPEN;
 pub use plan::KIND_TOTAL;
 pub use plan::plan_fits;
 pub use plan::write_plan;
+pub use plan::write_plan_by;
 ghost use mathlib.Core.Path.{_≡_};
 ghost use Prim.Native.Nat.{_≤_};
 ghost use lib.ListN.{length};
