@@ -1,5 +1,6 @@
 pub mod Bools
 pub mod LoopLaws
+pub mod PassingLaws
 pub mod SumLaws
 pub mod TestSetLaws
 pub mod CountLaws

@@ -1,7 +1,8 @@
 -- Loops: what loops compute. Least: least members. Sets: sets of numbers. Instance: the problem and its costs.
 -- Neighbours: the moves of a search. Search: the search itself. Plans: the two searches of document 01.
--- TwoLeast: the two least values over a set.
+-- TwoLeast: the two least values over a set. Passing: what a loop makes of a value.
 pub mod Loops
+pub mod Passing
 pub mod Least
 pub mod TwoLeast
 pub mod Sets

@@ -1,6 +1,7 @@
 -- TableLaws: the search's tables. MoveLaws: the best of the moves. DescentLaws: the search loop, and the open start.
 -- PlanningLaws: the cases of the two plans. PromiseLaws: "no move left" and demand 3. MarkedCases: document 01's marked cases.
--- SearchingLaws: the cases of the two searches alone.
+-- SearchingLaws: the cases of the two searches alone. ListedLaws: the listed facilities of a set. TakingLaws, ChoosingLaws: going through
+-- the moves takes the model's next set.
 pub mod TableLaws
 pub mod ShiftingLaws
 pub mod KeptLaws
@@ -8,7 +9,10 @@ pub mod NearLaws
 pub mod PriceLaws
 pub mod AloneLaws
 pub mod ClientLaws
+pub mod ListedLaws
 pub mod MoveLaws
+pub mod TakingLaws
+pub mod ChoosingLaws
 pub mod DescentLaws
 pub mod PlanningLaws
 pub mod PromiseLaws

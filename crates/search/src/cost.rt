@@ -7,6 +7,7 @@ ghost use Rattle.model.specs.Sets.{member};
 ghost use Rattle.model.specs.Instance.{openingCost};
 ghost use Rattle.search.specs.Tables.{Tables, tabled};
 ghost use Rattle.search.specs.Adding.{Adding, Added};
+ghost use Rattle.search.specs.Taking.{Leased, listedFees};
 use crate::near::ADDED;
 
 fn opening_of(opening: &[u32], set: u32, i: usize) -> u64
@@ -31,6 +32,20 @@ pub(crate) fn opening_cost(opening: &[u32], service: &[u32], m: usize, n: usize,
     while i < m {
         total += opening_of(opening, set, i);
         i += 1;
+    }
+    total
+}
+
+// What opening the listed facilities costs.
+pub(crate) fn fees_of(opening: &[u32], list: &[u8], count: usize) -> u32
+    requires { ⌜ Leased (now opening) (now list) count 50000000 ⌝ }
+    ensures { λ r. ⌜ r ≡ listedFees (now (opening .entry)) (now (list .entry)) count ⌝ }
+{
+    let mut total: u32 = 0;
+    let mut t = 0;
+    while t < count {
+        total += opening[list[t] as usize];
+        t += 1;
     }
     total
 }

@@ -15,6 +15,7 @@ ghost use Rattle.search.specs.Settling.{priced, Ready, neighboursBy, set
 use crate::clients::begin;
 use crate::clients::move_to;
 use crate::cost::add_up;
+use crate::cost::fees_of;
 use crate::cost::nearest_costs;
 use crate::cost::opening_cost;
 use crate::moves::Neighbourhood;
@@ -76,10 +77,13 @@ fn choose(
     requires { ⌜ Standing m n (now service) (b .set) (now kept) × Fees m (now opening) × Ready m n (now opening) (now service) b ⌝ }
     ensures { λ r. ⌜ r ≡ priced (tableCost m n (now (opening .entry)) (now (service .entry))) (next (tableCost m n (now (opening .entry)) (now (service .entry))) (neighboursBy neighbourhood m) (b .set)) ⌝ }
 {
+    let members = sets::members_of(b.set);
+    let list = members.list;
+    let count = members.count;
     let mut costs = [0u32; FACILITIES];
-    let fees = opening_cost(opening, service, m, n, b.set) as u32;
+    let fees = fees_of(opening, &list, count);
     add_up(fees, opening, kept, &mut costs);
-    best_move(neighbourhood, opening, service, m, n, b, &costs, kept)
+    best_move(neighbourhood, opening, m, b, &costs, kept, &list, count)
 }
 
 // From a start, the set whose cost no move lowers, by the table that is lent: nothing is counted in it yet.

@@ -1,19 +1,15 @@
 // The moves out of a set, in document 01's order, each against the best set so far: the earliest of least cost stays.
 //
-// A move is priced by a few additions, from two tables (MovePrices): `costs` has what each add costs, `kept` what the farms of a
-// yard pay more where it goes.
+// A move is priced by a few additions, from two tables: `costs` has what each add costs, `kept` what the farms of a yard pay more
+// where it goes. That these are the costs of the sets is said where the tables are made (`descent::choose`, MovePrices).
 ghost use mathlib.Core.Path.{_≡_};
-ghost use mathlib.Core.Bool.{true};
-ghost use Prim.Native.Nat.{_≤_, _<_};
+ghost use Prim.Native.Nat.{_≤_};
 ghost use lib.Dec.{ltb};
+ghost use lib.ListN.{length};
 ghost use Rattle.model.specs.Loops.{on};
-ghost use Rattle.model.specs.Sets.{count, member};
-ghost use Rattle.model.specs.Neighbours.{addAt, adds, dropAt, drops, swapAt, swapsOut, swaps};
-ghost use Rattle.model.specs.Search.{best, next};
-ghost use Rattle.search.specs.Tables.{tableCost};
-ghost use Rattle.search.specs.Prices.{MovePrices};
+ghost use Rattle.model.specs.Sets.{count};
 ghost use Rattle.search.specs.Choosing.{cheaper, Row, lowerAt};
-ghost use Rattle.search.specs.Settling.{priced, Ready, neighboursBy};
+ghost use Rattle.search.specs.Taking.{tryAdd, bestAdd, Leased, bestDrop, trySwap, SwapRow, bestSwapOut, SwapRows, bestSwap, bestMove};
 use crate::near::LOSS;
 use crate::near::MORE;
 
@@ -40,140 +36,77 @@ pub(crate) fn better_of(x: u32, cost: u64, b: Priced) -> Priced
     }
 }
 
-fn try_add(
-    opening: &[u32],
-    service: &[u32],
-    m: usize,
-    n: usize,
-    set: u32,
-    i: usize,
-    b: Priced,
-    costs: &[u32],
-    kept: &[u32],
-) -> Priced
-    requires { ⌜ MovePrices m n (now opening) (now service) set (now costs) (now kept) × Ready m n (now opening) (now service) b × (i < m) ⌝ }
-    ensures { λ r. ⌜ r ≡ priced (tableCost m n (now (opening .entry)) (now (service .entry))) (best (tableCost m n (now (opening .entry)) (now (service .entry))) (b .set) (addAt set i)) ⌝ }
+// Yard i opened at this cost. Few prices are below the best so far, so that is asked before whether the yard is open.
+fn try_add(set: u32, i: usize, cost: u64, b: Priced) -> Priced
+    ensures { λ r. ⌜ r ≡ tryAdd set i cost b ⌝ }
 {
+    if b.cost <= cost {
+        return b;
+    }
     if sets::has(set, i) {
         return b;
     }
-    better_of(sets::added(set, i), costs[i] as u64, b)
+    Priced {
+        set: sets::added(set, i),
+        cost,
+    }
 }
 
-fn best_add(
-    opening: &[u32],
-    service: &[u32],
-    m: usize,
-    n: usize,
-    set: u32,
-    start: Priced,
-    costs: &[u32],
-    kept: &[u32],
-) -> Priced
-    requires { ⌜ MovePrices m n (now opening) (now service) set (now costs) (now kept) × Ready m n (now opening) (now service) start ⌝ }
-    ensures { λ r. ⌜ r ≡ priced (tableCost m n (now (opening .entry)) (now (service .entry))) (best (tableCost m n (now (opening .entry)) (now (service .entry))) (start .set) (adds m set)) ⌝ }
+fn best_add(m: usize, set: u32, start: Priced, costs: &[u32]) -> Priced
+    requires { ⌜ m ≤ length (now costs) ⌝ }
+    ensures { λ r. ⌜ r ≡ bestAdd m set (now (costs .entry)) start ⌝ }
 {
     let mut b = start;
     let mut i = 0;
     while i < m {
-        b = try_add(opening, service, m, n, set, i, b, costs, kept);
+        b = try_add(set, i, costs[i] as u64, b);
         i += 1;
     }
     b
 }
 
-// 1 for an open yard, 0 for a closed one.
-fn one_if_open(set: u32, i: usize) -> usize
-    ensures { λ r. ⌜ r ≡ on (member set i) 1 ⌝ }
-{
-    if sets::has(set, i) { 1 } else { 0 }
-}
-
-// How many yards below m are open.
-fn open_count(set: u32, m: usize) -> usize
-    ensures { λ r. ⌜ r ≡ count m (member set) ⌝ }
-{
-    let mut total = 0;
-    let mut i = 0;
-    while i < m {
-        total += one_if_open(set, i);
-        i += 1;
-    }
-    total
-}
-
-// Closes yard o, where that is open: `cost` is the cost of the set itself.
-fn try_drop(
-    opening: &[u32],
-    service: &[u32],
-    m: usize,
-    n: usize,
-    set: u32,
-    cost: u64,
-    o: usize,
-    b: Priced,
-    costs: &[u32],
-    kept: &[u32],
-) -> Priced
-    requires { ⌜ MovePrices m n (now opening) (now service) set (now costs) (now kept) × Ready m n (now opening) (now service) b × (o < m) × (2 ≤ count m (member set)) × (cost ≡ tableCost m n (now opening) (now service) set) ⌝ }
-    ensures { λ r. ⌜ r ≡ priced (tableCost m n (now (opening .entry)) (now (service .entry))) (best (tableCost m n (now (opening .entry)) (now (service .entry))) (b .set) (dropAt set o)) ⌝ }
-{
-    if !sets::has(set, o) {
-        return b;
-    }
-    let price = cost + kept[LOSS + o] as u64 - opening[o] as u64;
-    better_of(sets::removed(set, o), price, b)
-}
-
-// Every drop, while two or more yards are open.
+// Every drop, while two or more yards are open: they are listed, and `cost` is the cost of the set itself.
 fn best_drop(
     opening: &[u32],
-    service: &[u32],
-    m: usize,
-    n: usize,
     set: u32,
     cost: u64,
     start: Priced,
-    costs: &[u32],
     kept: &[u32],
+    list: &[u8],
+    count: usize,
 ) -> Priced
-    requires { ⌜ MovePrices m n (now opening) (now service) set (now costs) (now kept) × Ready m n (now opening) (now service) start × (cost ≡ tableCost m n (now opening) (now service) set) ⌝ }
-    ensures { λ r. ⌜ r ≡ priced (tableCost m n (now (opening .entry)) (now (service .entry))) (best (tableCost m n (now (opening .entry)) (now (service .entry))) (start .set) (drops m set)) ⌝ }
+    requires { ⌜ Leased (now opening) (now list) count cost × (320 ≤ length (now kept)) × (cost ≤ 2000000000) ⌝ }
+    ensures { λ r. ⌜ r ≡ bestDrop (now (opening .entry)) set cost (now (kept .entry)) (now (list .entry)) count start ⌝ }
 {
-    if open_count(set, m) < 2 {
+    if count < 2 {
         return start;
     }
     let mut b = start;
-    let mut o = 0;
-    while o < m {
-        b = try_drop(opening, service, m, n, set, cost, o, b, costs, kept);
-        o += 1;
+    let mut t = 0;
+    while t < count {
+        let o = list[t] as usize;
+        let price = cost + kept[LOSS + o] as u64 - opening[o] as u64;
+        b = better_of(sets::removed(set, o), price, b);
+        t += 1;
     }
     b
 }
 
-// Closes the open yard o and opens yard i, where that is closed.
-fn try_swap(
-    opening: &[u32],
-    service: &[u32],
-    m: usize,
-    n: usize,
-    set: u32,
-    o: usize,
-    i: usize,
-    b: Priced,
-    costs: &[u32],
-    kept: &[u32],
-) -> Priced
-    requires { ⌜ MovePrices m n (now opening) (now service) set (now costs) (now kept) × Ready m n (now opening) (now service) b × (o < m) × (member set o ≡ true) × (i < m) ⌝ }
-    ensures { λ r. ⌜ r ≡ priced (tableCost m n (now (opening .entry)) (now (service .entry))) (best (tableCost m n (now (opening .entry)) (now (service .entry))) (b .set) (swapAt set o i)) ⌝ }
+// Yard o closed and yard i opened at this cost, where i is closed.
+fn try_swap(set: u32, o: usize, i: usize, cost: u64, b: Priced) -> Priced
+    ensures { λ r. ⌜ r ≡ trySwap set o i cost b ⌝ }
 {
+    if b.cost <= cost {
+        return b;
+    }
     if sets::has(set, i) {
         return b;
     }
-    let price = kept[MORE + 32 * o + i] as u64 + costs[i] as u64 - opening[o] as u64;
     let without = sets::removed(set, o);
-    better_of(sets::added(without, i), price, b)
+    Priced {
+        set: sets::added(without, i),
+        cost,
+    }
 }
 
 // 1 for a price below the bound, 0 for another.
@@ -197,32 +130,29 @@ fn lower_count(more: &[u32], at: usize, costs: &[u32], bound: u32) -> u32
     total
 }
 
-// Every swap that closes yard o, where it is open. Most rows have no price below the best so far: those are passed over.
+// Every swap that closes yard o. Most rows have no price below the best so far: those are passed over.
 fn best_swap_out(
     opening: &[u32],
-    service: &[u32],
     m: usize,
-    n: usize,
     set: u32,
     o: usize,
     start: Priced,
     costs: &[u32],
     kept: &[u32],
 ) -> Priced
-    requires { ⌜ MovePrices m n (now opening) (now service) set (now costs) (now kept) × Ready m n (now opening) (now service) start × (start .cost ≤ 2000000000) × (o < m) ⌝ }
-    ensures { λ r. ⌜ r ≡ priced (tableCost m n (now (opening .entry)) (now (service .entry))) (best (tableCost m n (now (opening .entry)) (now (service .entry))) (start .set) (swapsOut m set o)) ⌝ }
+    requires { ⌜ SwapRow (now opening) m (now costs) (now kept) o × (start .cost ≤ 2000000000) ⌝ }
+    ensures { λ r. ⌜ r ≡ bestSwapOut (now (opening .entry)) m set (now (costs .entry)) (now (kept .entry)) o start ⌝ }
 {
-    if !sets::has(set, o) {
-        return start;
-    }
     let bound = (start.cost + opening[o] as u64) as u32;
     if lower_count(kept, MORE + 32 * o, costs, bound) == 0 {
         return start;
     }
+    let saved = opening[o];
     let mut b = start;
     let mut i = 0;
     while i < m {
-        b = try_swap(opening, service, m, n, set, o, i, b, costs, kept);
+        let price = kept[MORE + 32 * o + i] + costs[i] - saved;
+        b = try_swap(set, o, i, price as u64, b);
         i += 1;
     }
     b
@@ -230,46 +160,46 @@ fn best_swap_out(
 
 fn best_swap(
     opening: &[u32],
-    service: &[u32],
     m: usize,
-    n: usize,
     set: u32,
     start: Priced,
     costs: &[u32],
     kept: &[u32],
+    list: &[u8],
+    count: usize,
 ) -> Priced
-    requires { ⌜ MovePrices m n (now opening) (now service) set (now costs) (now kept) × Ready m n (now opening) (now service) start × (start .cost ≤ 2000000000) ⌝ }
-    ensures { λ r. ⌜ r ≡ priced (tableCost m n (now (opening .entry)) (now (service .entry))) (best (tableCost m n (now (opening .entry)) (now (service .entry))) (start .set) (swaps m set)) ⌝ }
+    requires { ⌜ SwapRows (now opening) m (now costs) (now kept) (now list) count × (start .cost ≤ 2000000000) ⌝ }
+    ensures { λ r. ⌜ r ≡ bestSwap (now (opening .entry)) m set (now (costs .entry)) (now (kept .entry)) (now (list .entry)) count start ⌝ }
 {
     let mut b = start;
-    let mut o = 0;
-    while o < m {
-        b = best_swap_out(opening, service, m, n, set, o, b, costs, kept);
-        o += 1;
+    let mut t = 0;
+    while t < count {
+        b = best_swap_out(opening, m, set, list[t] as usize, b, costs, kept);
+        t += 1;
     }
     b
 }
 
-// The set after the best move, or the set itself where no move lowers the cost.
+// The set after the best move, or the set itself where no move lowers the cost. Its open yards are listed.
 pub(crate) fn best_move(
     neighbourhood: Neighbourhood,
     opening: &[u32],
-    service: &[u32],
     m: usize,
-    n: usize,
     b: Priced,
     costs: &[u32],
     kept: &[u32],
+    list: &[u8],
+    count: usize,
 ) -> Priced
-    requires { ⌜ MovePrices m n (now opening) (now service) (b .set) (now costs) (now kept) × Ready m n (now opening) (now service) b ⌝ }
-    ensures { λ r. ⌜ r ≡ priced (tableCost m n (now (opening .entry)) (now (service .entry))) (next (tableCost m n (now (opening .entry)) (now (service .entry))) (neighboursBy neighbourhood m) (b .set)) ⌝ }
+    requires { ⌜ Leased (now opening) (now list) count (b .cost) × (320 ≤ length (now kept)) × (b .cost ≤ 2000000000) × (m ≤ length (now costs)) × SwapRows (now opening) m (now costs) (now kept) (now list) count ⌝ }
+    ensures { λ r. ⌜ r ≡ bestMove neighbourhood (now (opening .entry)) m (now (costs .entry)) (now (kept .entry)) (now (list .entry)) count b ⌝ }
 {
     match neighbourhood {
         Neighbourhood::AddDropSwap => {
-            let added = best_add(opening, service, m, n, b.set, b, costs, kept);
-            let dropped = best_drop(opening, service, m, n, b.set, b.cost, added, costs, kept);
-            best_swap(opening, service, m, n, b.set, dropped, costs, kept)
+            let added = best_add(m, b.set, b, costs);
+            let dropped = best_drop(opening, b.set, b.cost, added, kept, list, count);
+            best_swap(opening, m, b.set, dropped, costs, kept, list, count)
         }
-        Neighbourhood::Swap => best_swap(opening, service, m, n, b.set, b, costs, kept),
+        Neighbourhood::Swap => best_swap(opening, m, b.set, b, costs, kept, list, count),
     }
 }

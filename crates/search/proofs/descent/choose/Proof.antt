@@ -1,49 +1,70 @@
--- `descent::choose` meets its contract: where the search stands, the tables price every move.
-use native.Mathlib.Omega.{arith}
-use Rattle.search.proofs.PriceLaws.{opening-few, adding, prices}
+-- `descent::choose` meets its contract: where the search stands, the tables price every move, and the one taken is the model's.
+use Rattle.search.proofs.PriceLaws.{adding}
+use Rattle.search.proofs.ClientLaws.{listed-is}
+use Rattle.search.proofs.ChoosingLaws.{leased, fees-are, moves-lent, chosen}
 use borrow.Author.Needs.{needs}
 use Rattle.search.proofs.descent.choose.Statement.{statement}
 use Rattle.search.proofs.descent.choose.Tie as tie
 
-opening-cost-requires : tie.Need-opening-cost-requires
-opening-cost-requires c κs = search needs
+members-of-requires : tie.Need-members-of-requires
+members-of-requires c κs = search needs
 
-cast-fees : tie.Need-cast-fees
-cast-fees c = let start = c .before .before .before .before in
+slice-aggregate-fees-of : tie.Need-slice-aggregate-fees-of
+slice-aggregate-fees-of c = search needs
+
+fees-of-requires : tie.Need-fees-of-requires
+fees-of-requires c κs = let members = c .before .before .members-of in
+    let start = c .before .before .before .before .before .before in
     let a = start .args in
-    omega (arith, c .opening-cost .ensures .0, opening-few (a .m) (a .n) (a .opening .now) (a .service .now) (a .b .set) _ (start .pre .0) (start .pre .1))
+    leased (a .m) (a .n) (a .opening .now) (a .service .now) (a .b) _ (start .pre .0) (start .pre .1)
+    _ _ (listed-is (a .b .set) (members .result) (members .ensures))
 
 slice-aggregate-add-up : tie.Need-slice-aggregate-add-up
 slice-aggregate-add-up c = search needs
 
 add-up-requires : tie.Need-add-up-requires
-add-up-requires c κs = let start = c .before .before .before .before .before in
+add-up-requires c κs = let members = c .before .before .before .before .members-of in
+    let start = c .before .before .before .before .before .before .before .before in
     let a = start .args in
-    adding (a .m) (a .n) (a .opening .now) (a .service .now) (a .b .set) _ (start .pre .0) _ _ (start .pre .1) (c .before .opening-cost .ensures .0) (search needs)
+    let fees-is = fees-are (a .m) (a .n) (a .opening .now) (a .service .now) (a .b) _ (start .pre .0) (start .pre .1)
+    _ _ (listed-is (a .b .set) (members .result) (members .ensures)) _ (c .before .fees-of .ensures) in
+    adding (a .m) (a .n) (a .opening .now) (a .service .now) (a .b .set) _ (start .pre .0) _ _ (start .pre .1) fees-is (search needs)
 
 slice-aggregate-best-move : tie.Need-slice-aggregate-best-move
 slice-aggregate-best-move c = search needs
 
+slice-aggregate-best-move-2 : tie.Need-slice-aggregate-best-move-2
+slice-aggregate-best-move-2 c = search needs
+
 best-move-requires : tie.Need-best-move-requires
-best-move-requires c κs = let up = c .before .before in
-    let start = c .before .before .before .before .before .before .before .before in
-    let a = start .args in (
-      prices (a .m) (a .n) (a .opening .now) (a .service .now) (a .b .set) _ (start .pre .0) _ _ (start .pre .1)
-          (up .before .before .opening-cost .ensures .0) (up .add-up .ensures) (search needs),
-      start .pre .2,
-    )
+best-move-requires c κs = let up = c .before .before .before in
+    let fees = up .before .before .fees-of in
+    let members = up .before .before .before .before .before .members-of in
+    let start = up .before .before .before .before .before .before .before .before .before in
+    let a = start .args in
+    moves-lent (a .m) (a .n) (a .opening .now) (a .service .now) (a .b) _ (start .pre .0) (start .pre .1)
+    _ _ (listed-is (a .b .set) (members .result) (members .ensures)) _ _ (fees .ensures) (up .add-up .ensures) (search needs) (start .pre .2 .right)
 
 returns : tie.Need-returns
-returns c = search needs
+returns c = let up = c .before .before .before .before in
+    let fees = up .before .before .fees-of in
+    let members = up .before .before .before .before .before .members-of in
+    let start = up .before .before .before .before .before .before .before .before .before in
+    let a = start .args in
+    chosen (a .m) (a .n) (a .opening .now) (a .service .now) (a .b) _ (start .pre .0) (start .pre .1)
+    _ _ (listed-is (a .b .set) (members .result) (members .ensures)) _ _ (fees .ensures) (up .add-up .ensures) (search needs) (start .pre .2 .right)
+    _ _ (c .best-move .ensures)
 
 pub choose-spec : {M : Type 1} → statement M
 choose-spec =
     tie.close
     (tie.spec
-    opening-cost-requires
-    cast-fees
+    members-of-requires
+    slice-aggregate-fees-of
+    fees-of-requires
     slice-aggregate-add-up
     add-up-requires
     slice-aggregate-best-move
+    slice-aggregate-best-move-2
     best-move-requires
     returns)

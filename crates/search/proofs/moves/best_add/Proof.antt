@@ -1,26 +1,36 @@
--- `moves::best_add` meets its contract. The invariant: b is the best of the adds passed, with its cost.
+-- `moves::best_add` meets its contract. The invariant: b is what the adds passed have taken.
 use Prim.Native.Nat.{_≤_, _-_}
 use native.Mathlib.Omega.{arith}
 use mathlib.Core.Path.{_≡_}
-use Rattle.model.specs.Neighbours.{addAt, adds}
-use Rattle.search.specs.Tables.{tableCost}
-use Rattle.search.proofs.MoveLaws.{Passed, passed-none, passed-more, ready}
+use borrow.Author.Needs.{needs}
+use Rattle.model.specs.Passing.{through}
+use Rattle.model.proofs.PassingLaws.{through-none}
+use Rattle.search.specs.Taking.{addAtCost, bestAdd}
+use Rattle.search.proofs.MoveLaws.{widens}
+use Rattle.search.proofs.TakingLaws.{adds-more}
 use Rattle.search.proofs.moves.best_add.Statement.{statement}
 use Rattle.search.proofs.moves.best_add.Tie as tie
 
 abbrev Inv-loop : tie.InvT-loop
-Inv-loop opening service m n set costs kept b₀ i₀ b i =
-    (i ≤ m) × Passed (tableCost m n opening service) (addAt set) (b₀ .set) b i
+Inv-loop m set costs b₀ i₀ b i = (i ≤ m) × (b ≡ through i (addAtCost set costs) b₀)
 
 abbrev μ-loop : tie.MeasureT-loop
-μ-loop opening service m n set costs kept b₀ i₀ b i = m - i
+μ-loop m set costs b₀ i₀ b i = m - i
 
 loop-holds : tie.Need-loop-holds Inv-loop μ-loop
-loop-holds c = (omega arith, passed-none _ _ _ (c .before .before .before .before .pre .1 .right))
+loop-holds c = (omega arith, through-none _ _)
+
+mul-try-add : tie.Need-mul-try-add Inv-loop μ-loop
+mul-try-add c = search needs
+
+shared-slice-read-try-add : tie.Need-shared-slice-read-try-add Inv-loop μ-loop
+shared-slice-read-try-add c = search needs
+
+cast-try-add : tie.Need-cast-try-add Inv-loop μ-loop
+cast-try-add c = widens (c .shared-slice-known2 .given _)
 
 try-add-requires : tie.Need-try-add-requires Inv-loop μ-loop
-try-add-requires c κs = let s = c .before .before .before .before .before .before in
-    (s .pre .0, ready _ _ _ _ _ _ (s .pre .1 .tables) (c .before .loop .inv .1), c .loop-test .taken)
+try-add-requires c κs = search needs
 
 add-i : tie.Need-add-i Inv-loop μ-loop
 add-i c = omega arith
@@ -29,15 +39,25 @@ loop-less : tie.Need-loop-less Inv-loop μ-loop
 loop-less c = omega arith
 
 loop-again : tie.Need-loop-again Inv-loop μ-loop
-loop-again c =
-    (omega arith, passed-more _ _ _ _ (c .before .before .loop .b) _ (c .before .before .loop .inv .1) (c .try-add .ensures))
+loop-again c = (omega arith, adds-more _ _ _ _ _ _ (c .before .before .before .loop .inv .1) (c .try-add .ensures))
 
 returns : tie.Need-returns Inv-loop μ-loop
-unfolding adds
-returns c = let e : c .before .loop .i ≡ c .before .before .before .before .before .before .args .m = omega arith in
+unfolding bestAdd
+returns c = let e : c .before .loop .i ≡ c .before .before .before .args .m = omega arith in
     rw e at (c .before .loop .inv .1)
 
 pub best-add-spec : {M : Type 1} → statement M
 best-add-spec =
     tie.close
-    (tie.spec Inv-loop μ-loop loop-holds try-add-requires add-i loop-less loop-again returns)
+    (tie.spec
+    Inv-loop
+    μ-loop
+    loop-holds
+    mul-try-add
+    shared-slice-read-try-add
+    cast-try-add
+    try-add-requires
+    add-i
+    loop-less
+    loop-again
+    returns)

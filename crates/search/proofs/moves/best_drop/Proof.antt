@@ -1,59 +1,94 @@
--- `moves::best_drop` meets its contract. The invariant: b is the best of the drops passed, with its cost.
-use Prim.Native.Nat.{_≤_, _-_}
+-- `moves::best_drop` meets its contract. The invariant: b is what the drops passed have taken.
+use Rattle.search.proofs.MoveLaws.{widens, widens8, price-fits}
+use Prim.Native.Nat.{_≤_, _-_, _+_}
 use native.Mathlib.Omega.{arith}
-use mathlib.Core.Path.{_≡_, sym, ap, _∙_}
+use mathlib.Core.Path.{_≡_}
 use borrow.Author.Needs.{needs}
-use borrow.Author.Tests.{lt-leb, le-leb}
-use lib.Dec.{leb}
-use Rattle.model.specs.Neighbours.{dropAt, drops}
-use Rattle.model.specs.Search.{best}
-use Rattle.search.specs.Tables.{tableCost}
-use Rattle.search.proofs.MoveLaws.{Passed, passed-none, passed-more, ready}
+use borrow.Author.Tests.{lt-ltb, le-ltb}
+use lib.ListN.{getD}
+use Rattle.model.specs.Passing.{through}
+use Rattle.model.proofs.PassingLaws.{through-none}
+use Rattle.search.specs.Taking.{atPlace, tryDrop, bestDrop}
+use Rattle.search.proofs.TakingLaws.{drops-more}
 use Rattle.search.proofs.moves.best_drop.Statement.{statement}
 use Rattle.search.proofs.moves.best_drop.Tie as tie
 
 abbrev Inv-loop : tie.InvT-loop
-Inv-loop opening service m n set cost costs kept b₀ o₀ b o =
-    (o ≤ m) × Passed (tableCost m n opening service) (dropAt set) (b₀ .set) b o
+Inv-loop opening set cost kept list count b₀ t₀ b t = (t ≤ count) × (b ≡ through t (atPlace list (tryDrop opening set cost kept)) b₀)
 
 abbrev μ-loop : tie.MeasureT-loop
-μ-loop opening service m n set cost costs kept b₀ o₀ b o = m - o
-
-open-count-requires : tie.Need-open-count-requires Inv-loop μ-loop
-open-count-requires c κs = search needs
+μ-loop opening set cost kept list count b₀ t₀ b t = count - t
 
 returns : tie.Need-returns Inv-loop μ-loop
-unfolding drops best
-returns c = rw (ap (leb 2) (sym (c .before .open-count .ensures)) ∙ lt-leb _ _ (c .if1 .taken))
-    (c .before .before .before .before .before .before .pre .1 .right)
+unfolding bestDrop
+returns c = rw (lt-ltb (c .before .before .before .before .args .count) 2 (omega arith))
 
 loop-holds : tie.Need-loop-holds Inv-loop μ-loop
-loop-holds c = (omega arith, passed-none _ _ _ (c .before .before .before .before .before .before .pre .1 .right))
+loop-holds c = (omega arith, through-none _ _)
 
-try-drop-requires : tie.Need-try-drop-requires Inv-loop μ-loop
-try-drop-requires c κs = let s = c .before .before .before .before .before .before .before .before in (
-  s .pre .0,
-  ready _ _ _ _ _ _ (s .pre .1 .tables) (c .before .loop .inv .1),
-  c .loop-test .taken,
-  omega (arith, c .before .before .before .open-count .ensures),
-  s .pre .2,
-)
+shared-slice-read-o : tie.Need-shared-slice-read-o Inv-loop μ-loop
+shared-slice-read-o c = search needs
 
-add-o : tie.Need-add-o Inv-loop μ-loop
-add-o c = omega arith
+cast-o : tie.Need-cast-o Inv-loop μ-loop
+cast-o c = widens8 (c .shared-slice-known4 .given _)
+
+add-price : tie.Need-add-price Inv-loop μ-loop
+add-price c = let s = c .before .before .before .before .before .before .before in
+    omega (arith, s .pre .0 .below (c .before .before .loop .t) (c .before .loop-test .taken))
+
+mul-price : tie.Need-mul-price Inv-loop μ-loop
+mul-price c = let s = c .before .before .before .before .before .before .before in
+    omega (arith, s .pre .0 .below (c .before .before .loop .t) (c .before .loop-test .taken))
+
+shared-slice-read-price : tie.Need-shared-slice-read-price Inv-loop μ-loop
+shared-slice-read-price c = let s = c .before .before .before .before .before .before .before .before in
+    omega (arith, s .pre .1, s .pre .0 .below (c .before .before .before .loop .t) (c .before .before .loop-test .taken))
+
+cast-price : tie.Need-cast-price Inv-loop μ-loop
+cast-price c = widens (c .shared-slice-known5 .given _)
+
+add-price-2 : tie.Need-add-price-2 Inv-loop μ-loop
+add-price-2 c = price-fits (c .before .before .before .before .before .before .before .before .pre .2) (c .shared-slice-known5 .given _)
+
+mul-price-2 : tie.Need-mul-price-2 Inv-loop μ-loop
+mul-price-2 c = let s = c .before .before .before .before .before .before .before .before in
+    omega (arith, s .pre .0 .below (c .before .before .before .loop .t) (c .before .before .loop-test .taken))
+
+shared-slice-read-price-2 : tie.Need-shared-slice-read-price-2 Inv-loop μ-loop
+shared-slice-read-price-2 c = let s = c .before .before .before .before .before .before .before .before .before in
+    omega (arith, s .pre .0 .opening-room, s .pre .0 .below (c .before .before .before .before .loop .t) (c .before .before .before .loop-test .taken))
+
+cast-price-2 : tie.Need-cast-price-2 Inv-loop μ-loop
+cast-price-2 c = widens (c .shared-slice-known6 .given _)
+
+sub-price : tie.Need-sub-price Inv-loop μ-loop
+sub-price c = let s = c .before .before .before .before .before .before .before .before .before in
+    omega (arith, s .pre .0 .small (c .before .before .before .before .loop .t) (c .before .before .before .loop-test .taken))
+
+removed-requires : tie.Need-removed-requires Inv-loop μ-loop
+removed-requires c κs = search needs
+
+better-of-requires : tie.Need-better-of-requires Inv-loop μ-loop
+better-of-requires c κs = search needs
+
+add-t : tie.Need-add-t Inv-loop μ-loop
+add-t c = omega arith
 
 loop-less : tie.Need-loop-less Inv-loop μ-loop
 loop-less c = omega arith
 
 loop-again : tie.Need-loop-again Inv-loop μ-loop
-loop-again c =
-    (omega arith, passed-more _ _ _ _ (c .before .before .loop .b) _ (c .before .before .loop .inv .1) (c .try-drop .ensures))
+loop-again c = let turn = c .before .before .before .before .before in
+    let a = turn .before .before .before .before .before .before .args in (
+      omega arith,
+      drops-more _ _ _ _ (a .list .now) (a .start) _ _ _ _ (turn .before .loop .inv .1) (c .before .removed .ensures) (c .better-of .ensures),
+    )
 
 returns-2 : tie.Need-returns-2 Inv-loop μ-loop
-unfolding drops
-returns-2 c = let e : c .before .loop .o ≡ c .before .before .before .before .before .before .before .before .args .m = omega arith in
-    rw (ap (leb 2) (sym (c .before .before .before .open-count .ensures)) ∙ le-leb _ _ (c .before .before .if1 .left))
-    (rw e at (c .before .loop .inv .1))
+unfolding bestDrop
+returns-2 c = let places = c .before .before .before .before .before .before .args .count in
+    let e : c .before .loop .t ≡ places = omega arith in
+    rw (le-ltb places 2 (omega arith)) (rw e at (c .before .loop .inv .1))
 
 pub best-drop-spec : {M : Type 1} → statement M
 best-drop-spec =
@@ -61,11 +96,22 @@ best-drop-spec =
     (tie.spec
     Inv-loop
     μ-loop
-    open-count-requires
     returns
     loop-holds
-    try-drop-requires
-    add-o
+    shared-slice-read-o
+    cast-o
+    add-price
+    mul-price
+    shared-slice-read-price
+    cast-price
+    add-price-2
+    mul-price-2
+    shared-slice-read-price-2
+    cast-price-2
+    sub-price
+    removed-requires
+    better-of-requires
+    add-t
     loop-less
     loop-again
     returns-2)

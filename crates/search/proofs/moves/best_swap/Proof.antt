@@ -1,44 +1,65 @@
--- `moves::best_swap` meets its contract. The invariant: b is the best of the swaps passed, with its cost.
+-- `moves::best_swap` meets its contract. The invariant: b is what the rows passed have taken, and costs no more than the bound.
 use Prim.Native.Nat.{_≤_, _-_}
 use native.Mathlib.Omega.{arith}
 use mathlib.Core.Path.{_≡_}
-use Rattle.model.specs.Neighbours.{swapsOut, swaps}
-use Rattle.search.specs.Tables.{tableCost}
-use Rattle.search.proofs.MoveLaws.{Passed, passed-none, passed-more, moved}
+use borrow.Author.Needs.{needs}
+use Rattle.model.specs.Passing.{through}
+use Rattle.model.proofs.PassingLaws.{through-none}
+use Rattle.search.specs.Taking.{atPlace, bestSwapOut, bestSwap}
+use Rattle.search.proofs.MoveLaws.{widens8}
+use Rattle.search.proofs.TakingLaws.{out-falls, rows-more}
 use Rattle.search.proofs.moves.best_swap.Statement.{statement}
 use Rattle.search.proofs.moves.best_swap.Tie as tie
 
 abbrev Inv-loop : tie.InvT-loop
-Inv-loop opening service m n set costs kept b₀ o₀ b o =
-    (o ≤ m) × Passed (tableCost m n opening service) (swapsOut m set) (b₀ .set) b o
+Inv-loop opening m set costs kept list count b₀ t₀ b t = (t ≤ count) × (b .cost ≤ 2000000000) × (b ≡ through t (atPlace list (bestSwapOut opening m set costs kept)) b₀)
 
 abbrev μ-loop : tie.MeasureT-loop
-μ-loop opening service m n set costs kept b₀ o₀ b o = m - o
+μ-loop opening m set costs kept list count b₀ t₀ b t = count - t
 
 loop-holds : tie.Need-loop-holds Inv-loop μ-loop
-loop-holds c = (omega arith, passed-none _ _ _ (c .before .before .before .before .pre .1 .right))
+loop-holds c = (omega arith, omega arith, through-none _ _)
+
+shared-slice-read-best-swap-out : tie.Need-shared-slice-read-best-swap-out Inv-loop μ-loop
+shared-slice-read-best-swap-out c = search needs
+
+cast-best-swap-out : tie.Need-cast-best-swap-out Inv-loop μ-loop
+cast-best-swap-out c = widens8 (c .shared-slice-known5 .given _)
 
 best-swap-out-requires : tie.Need-best-swap-out-requires Inv-loop μ-loop
-best-swap-out-requires c κs = let s = c .before .before .before .before .before .before in
-    let best = moved _ _ _ _ (s .args .start) (c .before .loop .b) _ _ (s .pre .1) (s .pre .2) (c .before .loop .inv .1) in
-    (s .pre .0, best .0, best .1, c .loop-test .taken)
+best-swap-out-requires c κs = let s = c .before .before .before .before .before .before .before in
+    (s .pre .0 .rows _ (c .before .loop-test .taken), c .before .before .loop .inv .1)
 
-add-o : tie.Need-add-o Inv-loop μ-loop
-add-o c = omega arith
+add-t : tie.Need-add-t Inv-loop μ-loop
+add-t c = omega arith
 
 loop-less : tie.Need-loop-less Inv-loop μ-loop
 loop-less c = omega arith
 
 loop-again : tie.Need-loop-again Inv-loop μ-loop
-loop-again c =
-    (omega arith, passed-more _ _ _ _ (c .before .before .loop .b) _ (c .before .before .loop .inv .1) (c .best-swap-out .ensures))
+loop-again c = let l = c .before .before .before .loop in
+    let a = c .before .before .before .before .before .before .before .before .args in (
+      omega arith,
+      out-falls _ _ _ _ _ _ _ (l .b) _ (l .inv .1) (c .best-swap-out .ensures),
+      rows-more _ _ _ _ _ (a .list .now) (a .start) (l .b) _ _ (l .inv .2) (c .best-swap-out .ensures),
+    )
 
 returns : tie.Need-returns Inv-loop μ-loop
-unfolding swaps
-returns c = let e : c .before .loop .o ≡ c .before .before .before .before .before .before .args .m = omega arith in
-    rw e at (c .before .loop .inv .1)
+unfolding bestSwap
+returns c = let e : c .before .loop .t ≡ c .before .before .before .before .before .before .args .count = omega arith in
+    rw e at (c .before .loop .inv .2)
 
 pub best-swap-spec : {M : Type 1} → statement M
 best-swap-spec =
     tie.close
-    (tie.spec Inv-loop μ-loop loop-holds best-swap-out-requires add-o loop-less loop-again returns)
+    (tie.spec
+    Inv-loop
+    μ-loop
+    loop-holds
+    shared-slice-read-best-swap-out
+    cast-best-swap-out
+    best-swap-out-requires
+    add-t
+    loop-less
+    loop-again
+    returns)

@@ -1,0 +1,285 @@
+-- Laws of taking moves: going through the moves by their prices is the model's search for the best of them.
+-- Idea: each step takes the best of its list of moves (none or one), so the loops take the best of all in a row. A row of swaps with
+-- no price below the best so far leaves it as it is.
+use Prim.Native.Nat.{ℕ, _+_, _-_, _*_, _^_, _≤_, _<_}
+use native.Mathlib.Decide.{decLt}
+use native.Mathlib.Omega.{arith}
+use mathlib.Core.Path.{_≡_, refl, sym, ap, _∙_}
+use mathlib.Core.Bool.{true, false}
+use mathlib.Core.List.{List, _++_}
+use borrow.Author.Tests.{lt-ltb, le-ltb, ltb-false, lt-leb, le-leb}
+use lib.Dec.{ltb}
+use lib.ListN.{length, getD}
+use Rattle.model.specs.Loops.{on}
+use Rattle.model.specs.Passing.{through}
+use Rattle.model.specs.Sets.{count, member, with, without}
+use Rattle.model.specs.Instance.{openingCost, totalCost}
+use Rattle.model.specs.Neighbours.{addAt, adds, dropAt, drops, swapAt, swapsOut, swaps, addDropSwap}
+use Rattle.model.specs.Search.{best, next}
+use Rattle.model.specs.Plans.{openCost}
+use Rattle.model.proofs.Bools.{cases, fails}
+use Rattle.model.proofs.SumLaws.{sum-none, sum-more, sum-term}
+use Rattle.model.proofs.CountLaws.{count-some}
+use Rattle.model.proofs.PassingLaws.{through-more, through-keeps, through-holds}
+use Rattle.sets.specs.Within.{with32}
+use Rattle.sets.proofs.SetLaws.{with32-below}
+use Rattle.search.specs.Tables.{tabled, tableCost}
+use Rattle.search.specs.Prices.{MovePrices}
+use Rattle.search.specs.Adding.{Added}
+use Rattle.search.specs.Standing.{Listed}
+use Rattle.search.specs.Choosing.{cheaper, Row, lowerAt}
+use Rattle.search.specs.Taking.{atPlace, tryAdd, addAtCost, bestAdd, tryDrop, bestDrop, trySwap, swapAtCost, bestSwapOut, bestSwap, bestMove, Leased, listedFees, SwapRow, SwapRows}
+use Rattle.search.specs.Settling.{priced, neighboursBy}
+use Rattle.search.specs.declared.moves.Priced.{Priced}
+use Rattle.search.specs.declared.moves.Neighbourhood.{Neighbourhood}
+use Rattle.search.specs.declared.moves.Neighbourhood.the-variants.{AddDropSwap, Swap}
+use Rattle.search.proofs.ListedLaws.{inSet, list-room, places-few, places-count, place-below, place-in, through-listed, sum-listed}
+use Rattle.search.proofs.MoveLaws.{set-of, cost-of, cheaper-is-better, best-then, right-of, through-best}
+
+-- ---- the best so far never costs more than before
+
+cheaper-falls : (x k top : ℕ) (b : Priced) → b .cost ≤ top → cheaper x k b .cost ≤ top
+unfolding cheaper
+cheaper-falls x k top b low =
+    elim (decLt k (b .cost)) [
+      | yes l ↦ rw (lt-ltb k (b .cost) l) (omega arith)
+      | no g ↦ rw (le-ltb k (b .cost) (omega arith)) low
+    ]
+
+add-falls : (m set : ℕ) (costs : List ℕ) (top : ℕ) (b : Priced) → b .cost ≤ top → bestAdd m set costs b .cost ≤ top
+unfolding bestAdd addAtCost tryAdd
+add-falls m set costs top b low =
+    through-holds (λ x. x .cost ≤ top) (addAtCost set costs) b m
+    (λ i l x h. cases (member set i) (λ e. rw e h) (λ e. rw e (cheaper-falls (with32 set i) (getD costs i 0) top x h))) low
+
+drop-falls : (opening : List ℕ) (set cost : ℕ) (kept list : List ℕ) (places top : ℕ) (b : Priced) → b .cost ≤ top
+    → bestDrop opening set cost kept list places b .cost ≤ top
+unfolding bestDrop tryDrop
+drop-falls opening set cost kept list places top b low =
+    cases (ltb places 2) (λ e. rw e low)
+    (λ e. rw e (through-holds (λ x. x .cost ≤ top) (atPlace list (tryDrop opening set cost kept)) b places
+    (λ t l x h. cheaper-falls _ _ top x h) low))
+
+swap-falls : (opening : List ℕ) (m set : ℕ) (costs kept : List ℕ) (o top : ℕ) (b : Priced) → b .cost ≤ top
+    → bestSwapOut opening m set costs kept o b .cost ≤ top
+unfolding bestSwapOut swapAtCost trySwap
+swap-falls opening m set costs kept o top b low =
+    through-holds (λ x. x .cost ≤ top) (swapAtCost opening set costs kept o) b m
+    (λ i l x h. cases (member set i) (λ e. rw e h) (λ e. rw e (cheaper-falls _ _ top x h))) low
+
+pub out-falls : (opening : List ℕ) (m set : ℕ) (costs kept : List ℕ) (o top : ℕ) (b r : Priced) → b .cost ≤ top
+    → r ≡ bestSwapOut opening m set costs kept o b → r .cost ≤ top
+out-falls opening m set costs kept o top b r low e = rw e (swap-falls opening m set costs kept o top b low)
+
+pub both-fall : (opening : List ℕ) (m set cost : ℕ) (costs kept list : List ℕ) (places : ℕ) (b added dropped : Priced)
+    → b .cost ≤ 2000000000 → added ≡ bestAdd m set costs b → dropped ≡ bestDrop opening set cost kept list places added
+    → dropped .cost ≤ 2000000000
+both-fall opening m set cost costs kept list places b added dropped low a d =
+    rw d (drop-falls opening set cost kept list places 2000000000 added (rw a (add-falls m set costs 2000000000 b low)))
+
+-- ---- a row of swaps with no price below the best so far
+
+-- where no price of a row is below the bound
+none-lower : (more : List ℕ) (at : ℕ) (costs : List ℕ) (bound i : ℕ) → count 32 (lowerAt more at costs bound) ≡ 0 → i < 32
+    → bound ≤ getD more (at + i) 0 + getD costs i 0
+unfolding lowerAt
+none-lower more at costs bound i none l =
+    ltb-false (getD more (at + i) 0 + getD costs i 0) bound
+    (fails (λ e. let some = count-some 32 i (lowerAt more at costs bound) l e in omega arith))
+
+-- at a price that is not lower b stays
+swap-stays : (set o i k : ℕ) (b : Priced) → b .cost ≤ k → trySwap set o i k b ≡ b
+unfolding trySwap cheaper
+swap-stays set o i k b h = cases (member set i) (λ e. rw e) (λ e. rw (e, le-ltb k (b .cost) h))
+
+pub row-stays : (opening : List ℕ) (m set : ℕ) (costs kept : List ℕ) (o bound : ℕ) (b : Priced) → m ≤ 32
+    → bound ≡ b .cost + getD opening o 0 → count 32 (lowerAt kept (320 + 32 * o) costs bound) ≡ 0
+    → b ≡ bestSwapOut opening m set costs kept o b
+unfolding bestSwapOut swapAtCost
+row-stays opening m set costs kept o bound b few bound-is none =
+    sym (through-keeps (swapAtCost opening set costs kept o) b m
+    (λ i l. swap-stays set o i _ b (let h = none-lower kept (320 + 32 * o) costs bound i none (omega arith) in omega arith)))
+
+-- ---- one move, as the code tests it: the price first
+
+-- a price that is not lower
+pub add-dear : (set i k : ℕ) (b : Priced) → b .cost ≤ k → b ≡ tryAdd set i k b
+unfolding tryAdd cheaper
+add-dear set i k b h = cases (member set i) (λ e. rw e) (λ e. rw (e, le-ltb k (b .cost) h))
+
+pub add-open : (set i k : ℕ) (b : Priced) → member set i ≡ true → b ≡ tryAdd set i k b
+unfolding tryAdd
+add-open set i k b e = rw e
+
+pub add-taken : (set i k : ℕ) (b : Priced) (x : ℕ) → k < b .cost → member set i ≡ false → x ≡ with32 set i
+    → record { set = x; cost = k } ≡ tryAdd set i k b
+unfolding tryAdd cheaper
+add-taken set i k b x l e h = rw (e, lt-ltb k (b .cost) l, h)
+
+pub swap-open : (set o i k : ℕ) (b : Priced) → member set i ≡ true → b ≡ trySwap set o i k b
+unfolding trySwap
+swap-open set o i k b e = rw e
+
+pub swap-dear : (set o i k : ℕ) (b : Priced) → b .cost ≤ k → b ≡ trySwap set o i k b
+swap-dear set o i k b h = sym (swap-stays set o i k b h)
+
+pub swap-taken : (set o i k : ℕ) (b : Priced) (x y : ℕ) → k < b .cost → member set i ≡ false → x ≡ without set o → y ≡ with32 x i
+    → record { set = y; cost = k } ≡ trySwap set o i k b
+unfolding trySwap cheaper
+swap-taken set o i k b x y l e h g = rw (e, lt-ltb k (b .cost) l, g, h)
+
+-- ---- a turn of each loop, with what its calls answer
+
+through-turn : (f : ℕ → Priced → Priced) (start b r : Priced) (i : ℕ) → b ≡ through i f start → r ≡ f i b → r ≡ through (i + 1) f start
+through-turn f start b r i e h = h ∙ ap (f i) e ∙ sym (through-more f start i)
+
+pub adds-more : (set : ℕ) (costs : List ℕ) (start b r : Priced) (i : ℕ) → b ≡ through i (addAtCost set costs) start
+    → r ≡ tryAdd set i (getD costs i 0) b → r ≡ through (i + 1) (addAtCost set costs) start
+unfolding addAtCost
+adds-more set costs start b r i e h = through-turn (addAtCost set costs) start b r i e h
+
+pub drops-more : (opening : List ℕ) (set cost : ℕ) (kept list : List ℕ) (start b r : Priced) (t x : ℕ)
+    → b ≡ through t (atPlace list (tryDrop opening set cost kept)) start → x ≡ without set (getD list t 0)
+    → r ≡ cheaper x (cost + getD kept (288 + getD list t 0) 0 - getD opening (getD list t 0) 0) b
+    → r ≡ through (t + 1) (atPlace list (tryDrop opening set cost kept)) start
+unfolding tryDrop
+drops-more opening set cost kept list start b r t x e removed h =
+    through-turn (atPlace list (tryDrop opening set cost kept)) start b r t e
+    (h ∙ ap (λ (y : ℕ). cheaper y (cost + getD kept (288 + getD list t 0) 0 - getD opening (getD list t 0) 0) b) removed)
+
+pub row-more : (opening : List ℕ) (set : ℕ) (costs kept : List ℕ) (o : ℕ) (start b r : Priced) (i : ℕ)
+    → b ≡ through i (swapAtCost opening set costs kept o) start
+    → r ≡ trySwap set o i (getD kept (320 + 32 * o + i) 0 + getD costs i 0 - getD opening o 0) b
+    → r ≡ through (i + 1) (swapAtCost opening set costs kept o) start
+unfolding swapAtCost
+row-more opening set costs kept o start b r i e h = through-turn (swapAtCost opening set costs kept o) start b r i e h
+
+pub rows-more : (opening : List ℕ) (m set : ℕ) (costs kept list : List ℕ) (start b r : Priced) (t : ℕ)
+    → b ≡ through t (atPlace list (bestSwapOut opening m set costs kept)) start
+    → r ≡ bestSwapOut opening m set costs kept (getD list t 0) b
+    → r ≡ through (t + 1) (atPlace list (bestSwapOut opening m set costs kept)) start
+rows-more opening m set costs kept list start b r t e h =
+    through-turn (atPlace list (bestSwapOut opening m set costs kept)) start b r t e h
+
+-- the loops in a row, for each kind of moves
+
+module _ (moves : Neighbourhood) (opening : List ℕ) (m : ℕ) (costs kept list : List ℕ) (places : ℕ) (b : Priced) where
+  pub taken-all : (added dropped r : Priced) → moves ≡ AddDropSwap → added ≡ bestAdd m (b .set) costs b
+      → dropped ≡ bestDrop opening (b .set) (b .cost) kept list places added
+      → r ≡ bestSwap opening m (b .set) costs kept list places dropped → r ≡ bestMove moves opening m costs kept list places b
+  unfolding bestMove
+  taken-all added dropped r e a d s =
+      rw e (s ∙ ap (bestSwap opening m (b .set) costs kept list places)
+      (d ∙ ap (bestDrop opening (b .set) (b .cost) kept list places) a))
+
+  pub taken-swap : (r : Priced) → moves ≡ Swap → r ≡ bestSwap opening m (b .set) costs kept list places b
+      → r ≡ bestMove moves opening m costs kept list places b
+  unfolding bestMove
+  taken-swap r e s = rw e s
+
+-- the opening costs of the listed facilities
+
+pub fees-none : (opening list : List ℕ) → 0 ≡ listedFees opening list 0
+unfolding listedFees
+fees-none opening list = sum-none (λ t. getD opening (getD list t 0) 0)
+
+pub fees-more : (opening list : List ℕ) (total t : ℕ) → total ≡ listedFees opening list t
+    → total + getD opening (getD list t 0) 0 ≡ listedFees opening list (t + 1)
+unfolding listedFees
+fees-more opening list total t e =
+    ap (λ (x : ℕ). x + getD opening (getD list t 0) 0) e ∙ sym (sum-more (λ k. getD opening (getD list k 0) 0) t)
+
+-- ---- what the prices say
+
+module _ (m n : ℕ) (opening service : List ℕ) (set : ℕ) (costs kept : List ℕ)
+    (given : MovePrices m n opening service set costs kept)
+    (list : List ℕ) (places : ℕ) (listed : Listed set list places) (narrow : set < 2 ^ m) where
+  abbrev cost : ℕ → ℕ
+  cost = tableCost m n opening service
+
+  abbrev Right : Priced → Type 0
+  Right x = x ≡ priced cost (x .set)
+
+  abbrev few : m ≤ 32
+  few = given .few-facilities
+
+  -- ---- each move is taken at the cost of its set
+
+  add-is : (i : ℕ) → i < m → (x : Priced) → Right x → addAtCost set costs i x ≡ priced cost (best cost (x .set) (addAt set i))
+  unfolding addAtCost tryAdd addAt best
+  add-is i l x right =
+      cases (member set i)
+      (λ e. rw e right)
+      (λ e. rw (e, with32-below set i (omega (arith, few))) (cheaper-is-better cost (with set i) x (getD costs i 0) right (given .add i l e)))
+
+  adds-are : (x : Priced) → Right x → bestAdd m set costs x ≡ priced cost (best cost (x .set) (adds m set))
+  unfolding bestAdd adds
+  adds-are x right = through-best cost (addAtCost set costs) (addAt set) x right m add-is
+
+  drop-is : 2 ≤ count m (member set) → (o : ℕ) → o < m → (x : Priced) → Right x
+      → inSet set (tryDrop opening set (cost set) kept) o x ≡ priced cost (best cost (x .set) (dropAt set o))
+  unfolding tryDrop dropAt best
+  drop-is two o l x right =
+      cases (member set o)
+      (λ e. rw e (cheaper-is-better cost (without set o) x _ right (omega (arith, given .drop o l e two))))
+      (λ e. rw e right)
+
+  drops-are : (x : Priced) → Right x
+      → bestDrop opening set (cost set) kept list places x ≡ priced cost (best cost (x .set) (drops m set))
+  unfolding bestDrop drops best
+  drops-are x right =
+      let as-many = places-count set m list places listed few narrow in
+      elim (decLt places 2) [
+        | yes l ↦ rw (lt-ltb places 2 l, lt-leb 2 (count m (member set)) (omega arith)) right
+        | no g ↦
+            let two : 2 ≤ count m (member set) = omega arith in
+            rw (le-ltb places 2 (omega arith), le-leb 2 (count m (member set)) two)
+            (through-listed set m list places listed few narrow (tryDrop opening set (cost set) kept) x
+            ∙ through-best cost (inSet set (tryDrop opening set (cost set) kept)) (dropAt set) x right m (drop-is two))
+      ]
+
+  swap-is : (o : ℕ) → o < m → member set o ≡ true → (i : ℕ) → i < m → (x : Priced) → Right x
+      → swapAtCost opening set costs kept o i x ≡ priced cost (best cost (x .set) (swapAt set o i))
+  unfolding swapAtCost trySwap swapAt best
+  swap-is o lo is-open i l x right =
+      cases (member set i)
+      (λ e. rw e right)
+      (λ e. rw (e, with32-below (without set o) i (omega (arith, few)))
+      (cheaper-is-better cost (with (without set o) i) x _ right (omega (arith, given .swap o i lo is-open l e))))
+
+  swaps-out-are : (o : ℕ) → o < m → (x : Priced) → Right x
+      → inSet set (bestSwapOut opening m set costs kept) o x ≡ priced cost (best cost (x .set) (swapsOut m set o))
+  unfolding bestSwapOut swapsOut best
+  swaps-out-are o l x right =
+      cases (member set o)
+      (λ e. rw e (through-best cost (swapAtCost opening set costs kept o) (swapAt set o) x right m (swap-is o l e)))
+      (λ e. rw e right)
+
+  swaps-are : (x : Priced) → Right x
+      → bestSwap opening m set costs kept list places x ≡ priced cost (best cost (x .set) (swaps m set))
+  unfolding bestSwap swaps
+  swaps-are x right =
+      through-listed set m list places listed few narrow (bestSwapOut opening m set costs kept) x
+      ∙ through-best cost (inSet set (bestSwapOut opening m set costs kept)) (swapsOut m set) x right m swaps-out-are
+
+-- all moves of a kind
+module _ (m n : ℕ) (opening service : List ℕ) (b : Priced) (costs kept : List ℕ)
+    (given : MovePrices m n opening service (b .set) costs kept)
+    (list : List ℕ) (places : ℕ) (listed : Listed (b .set) list places) (narrow : b .set < 2 ^ m)
+    (right : b ≡ priced (tableCost m n opening service) (b .set)) where
+  pub moves-are : (moves : Neighbourhood)
+      → bestMove moves opening m costs kept list places b
+      ≡ priced (tableCost m n opening service) (next (tableCost m n opening service) (neighboursBy moves m) (b .set))
+  unfolding bestMove next neighboursBy addDropSwap
+  moves-are AddDropSwap =
+      let cost = tableCost m n opening service in
+      let set = b .set in
+      let added = bestAdd m set costs b in
+      let dropped = bestDrop opening set (b .cost) kept list places added in
+      let a = adds-are m n opening service set costs kept given list places listed narrow b right in
+      let d = ap (λ (k : ℕ). bestDrop opening set k kept list places added) (cost-of cost b set right)
+      ∙ drops-are m n opening service set costs kept given list places listed narrow added (right-of cost added _ a) in
+      let s = swaps-are m n opening service set costs kept given list places listed narrow dropped (right-of cost dropped _ d) in
+      best-then cost set (adds m set ++ drops m set) (swaps m set) dropped _
+      (best-then cost set (adds m set) (drops m set) added dropped a d) s
+  moves-are Swap = swaps-are m n opening service (b .set) costs kept given list places listed narrow b right
