@@ -1,6 +1,6 @@
 -- Laws of the two least values: for loops, and after one number comes into the set or goes out of it.
 -- One value more comes in by `insert`, in any order; so a set without o has the two from which `insert (v o)` makes those of the set.
-use Prim.Native.Nat.{ℕ, zero, suc, _+_, _/_, _%_, _≤_, _<_, min, max, zero-le}
+use Prim.Native.Nat.{ℕ, zero, suc, _+_, _*_, _/_, _%_, _≤_, _<_, min, max, zero-le}
 use native.Mathlib.Nat.{le-refl, le-step, le-of-lt, lt-suc-self, not-suc-le-zero, min-eq-left, min-eq-right, max-comm}
 use native.Mathlib.Numerals.{add-one}
 use native.Mathlib.Omega.{arith}
@@ -9,11 +9,11 @@ use mathlib.Core.Logic.{_⊎_, inl, inr}
 use mathlib.Core.Bool.{Bool, true, false, cond, not, _&&_, _||_, true≢false}
 use borrow.Author.Tests.{ltb-true, ltb-false, ne-eqb}
 use lib.Dec.{eqb, ltb}
-use Rattle.model.specs.Least.{any, least}
+use Rattle.model.specs.Least.{any, least, arg}
 use Rattle.model.specs.TwoLeast.{Two, two, insert, twoLeast, packed}
 use Rattle.model.specs.Sets.{plus, minus}
 use Rattle.model.proofs.Bools.{cases, eqb-self, Eq?, same, diff, test, Lt?, less, more, test<}
-use Rattle.model.proofs.LeastLaws.{none-of}
+use Rattle.model.proofs.LeastLaws.{none-of, arg-least, arg-is, least-at}
 use Rattle.model.proofs.GapLaws.{NoneFrom, gap}
 
 -- ---- one value more
@@ -220,6 +220,24 @@ packed-divides c i l = omega arith
 pub packed-facility : (c : ℕ → ℕ) (i : ℕ) → i < 32 → packed c i % 32 ≡ i
 unfolding packed
 packed-facility c i l = omega arith
+
+-- of least packed number is who is of least cost, the lowest number among equals
+packed-arg : (m : ℕ) (S : ℕ → Bool) (c : ℕ → ℕ) → m ≤ 32 → any m S ≡ true → arg m S (packed c) ≡ arg m S c
+unfolding packed
+packed-arg m S c few some =
+    let r = arg-least m S (packed c) some in
+    sym (arg-is m (arg m S (packed c)) S c (record {
+      below = r .below;
+      is-in = r .is-in;
+      lowest = λ k l f. omega (arith, r .lowest k l f, r .below);
+      first = λ k l f. omega (arith, r .first k l f, r .below);
+    }))
+
+-- so the first of the two is that member with its cost
+pub packed-first : (h m : ℕ) (S : ℕ → Bool) (c : ℕ → ℕ) → m ≤ 32 → any m S ≡ true → ((i : ℕ) → i < m → packed c i ≤ h)
+    → twoLeast h m S (packed c) .first ≡ packed c (arg m S c)
+packed-first h m S c few some bound =
+    first-least h m S (packed c) some bound ∙ least-at m S (packed c) some ∙ ap (packed c) (packed-arg m S c few some)
 
 -- what is the packed number of o names o
 names : (c : ℕ → ℕ) (o x : ℕ) → o < 32 → packed c o ≡ x → x % 32 ≡ o

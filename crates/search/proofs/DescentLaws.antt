@@ -111,20 +111,6 @@ module _ (cost : ℕ → ℕ) (neighbours : ℕ → List ℕ) where
         ap (λ (k : ℕ). record { set = b .set; cost = k; moves = made }) b-cost
         ∙ ap (settledAt cost) (sym (g .same ∙ descend-stops cost neighbours (start .cost - made) (b .set) made stays))
 
--- ---- before the first client is counted: the front of the kept table is set, and then the sums of the columns are added up
-
-module _ (m n : ℕ) (service : List ℕ) where
-  pub fresh-kept : (before front kept : List ℕ) → Aside front kept → Zeros 1344 before → Front 256 32000031 front → Behind 256 before front
-      → Rows m n service → 1344 ≤ length kept → ColumnSums m n service kept → Kept m n service kept
-  fresh-kept before front kept aside zeros far behind rows room columns =
-      kept-start m n service kept rows room (λ k l. aside .below k l ∙ far k l) columns
-      (λ k l r. aside .above k l ∙ (behind k (omega arith) ∙ zeros k r))
-
-  pub fresh-near : (front kept : List ℕ) (set : ℕ) → Aside front kept → Front 256 32000031 front → n ≤ 128 → NearUpTo m n service kept set 0
-  fresh-near front kept set aside far few =
-      let farthest : (k : ℕ) → k < 256 → getD kept k 0 ≡ 32000031 = λ k l. aside .below k l ∙ far k l in
-      none-begun m n service kept set (λ j l. record { first = farthest j (omega arith); second = farthest (128 + j) (omega arith) })
-
 -- ---- one step
 
 pub step-move : (moves : Neighbourhood) (m : ℕ) (cost : ℕ → ℕ) (b c : Priced) → b ≡ priced cost (b .set)
@@ -140,45 +126,3 @@ step-move moves m cost b c right e lower =
     by Swap h =
         let r = among-swap m (b .set) _ h in
         swapped (r .out) (r .into) (r .out-below) (r .out-open) (r .into-below) (r .into-shut) (r .is)
-
--- ---- the starts are sets of facilities that have one
-
-pub open-start-good : (m n : ℕ) (opening service : List ℕ) (start : Priced) → 1 ≤ m
-    → start ≡ priced (tableCost m n opening service) (openStart (tabled m n opening service))
-    → (start .set < 2 ^ m) × (any m (member (start .set)) ≡ true)
-unfolding tabled
-open-start-good m n opening service start some e =
-    subst (λ (x : ℕ). (x < 2 ^ m) × (any m (member x) ≡ true)) (sym (set-of (tableCost m n opening service) start _ e))
-    (open-start (tabled m n opening service) some)
-
-pub first-yards-good : (m k x : ℕ) → 1 ≤ k → k ≤ m → x ≡ limitedStart k → (x < 2 ^ m) × (any m (member x) ≡ true)
-first-yards-good m k x some few e =
-    let start = limited-start m k few in
-    subst (λ (x : ℕ). (x < 2 ^ m) × (any m (member x) ≡ true)) (sym e)
-    (start .0, any-counted m (member (limitedStart k)) (omega (arith, start .1)))
-
--- ---- on tables filled from a sheet, the search is that of the sheet's instance
-
-module _ (s : List ℕ) (m n : ℕ) (opening service : List ℕ) (hauls : Holds s m (n * m) service) (r : Settled) where
-  start-is : ((set : ℕ) → tableCost m n opening service set ≡ openCost (instanceBy s m n) set)
-      → openStart (tabled m n opening service) ≡ openStart (instanceBy s m n)
-  unfolding tabled instanceBy tableCost
-  start-is agree = same-start (tabled m n opening service) (instanceBy s m n) refl agree
-
-  pub open-reached : (start : Priced) → Holds s 0 m opening
-      → start ≡ priced (tableCost m n opening service) (openStart (tabled m n opening service))
-      → r ≡ settledAt (tableCost m n opening service) (search (tableCost m n opening service) (neighboursBy AddDropSwap m) (start .set))
-      → r ≡ openEnd (instanceBy s m n)
-  unfolding openEnd neighboursBy openSearch instanceBy tableCost openCost addDropSwap
-  open-reached start fees e h =
-      let agree = open-cost-is s m n opening service fees hauls in
-      h ∙ ap₂ (λ cost x. settledAt cost (search cost (addDropSwap m) x)) (fun-ext agree)
-      (set-of (tableCost m n opening service) start _ e ∙ start-is agree)
-
-  pub limited-reached : (k x : ℕ) → Zeros m opening → x ≡ limitedStart k
-      → r ≡ settledAt (tableCost m n opening service) (search (tableCost m n opening service) (neighboursBy Swap m) x)
-      → r ≡ limitedEnd (instanceBy s m n) k
-  unfolding limitedEnd neighboursBy limitedSearch instanceBy tableCost limitedCost swaps
-  limited-reached k x free x-is h =
-      let agree = limited-cost-is s m n opening service free hauls in
-      h ∙ ap₂ (λ cost y. settledAt cost (search cost (swaps m) y)) (fun-ext agree) x-is

@@ -1,7 +1,7 @@
 -- TableLaws: the search's tables. MoveLaws: the best of the moves. DescentLaws: the search loop, and the open start.
 -- PlanningLaws: the cases of the two plans. PromiseLaws: "no move left" and demand 3. MarkedCases: document 01's marked cases.
--- SearchingLaws: the cases of the two searches alone. ListedLaws: the listed facilities of a set. TakingLaws, ChoosingLaws: going through
--- the moves takes the model's next set.
+-- ListedLaws: the listed facilities of a set. TakingLaws, ChoosingLaws: going through the moves takes the model's next set.
+-- PreparingLaws: what every plan goes through.
 pub mod TableLaws
 pub mod ShiftingLaws
 pub mod KeptLaws
@@ -17,4 +17,4 @@ pub mod DescentLaws
 pub mod PlanningLaws
 pub mod PromiseLaws
 pub mod MarkedCases
-pub mod SearchingLaws
+pub mod PreparingLaws

@@ -1,69 +1,35 @@
 -- The cases of the two plans: each refusal, and the plan that the search reaches.
-use Prim.Native.Nat.{ℕ, _^_, _≤_, _<_}
+use Prim.Native.Nat.{ℕ, _≤_, _<_}
 use native.Mathlib.Omega.{arith}
-use mathlib.Core.Path.{_≡_, refl, sym, ap, _∙_}
+use mathlib.Core.Path.{_≡_, refl, sym, ap, subst, _∙_}
 use mathlib.Core.Bool.{Bool, true, false, and-false}
 use mathlib.Core.List.{List}
 use borrow.Author.Tests.{le-leb, lt-leb, leb-true}
 use lib.ListN.{length}
 use lib.Dec.{leb}
-use Rattle.model.specs.Sets.{member}
-use Rattle.model.specs.Search.{search}
-use Rattle.model.specs.Plans.{openCost, openSearch, limitedCost, limitedSearch}
 use Rattle.model.proofs.Bools.{and-left, and-right}
-use Rattle.model.proofs.SearchLaws.{search-ends}
 use Rattle.sheet.specs.Records.{splice}
 use Rattle.sheet.specs.Answers.{Answer, accepted, refused, ask, after}
 use Rattle.sheet.specs.Sheet.{instanceBy, instanceOf}
 use Rattle.sheet.specs.Shape.{Shape}
-use Rattle.sheet.specs.Reading.{Counts, counts, reading}
+use Rattle.sheet.specs.Reading.{Counts, counts, reading, meaning as readingMeaning}
+use Rattle.sheet.specs.OnePass.{formAndAmounts}
+use Rattle.sheet.specs.declared.Reading.{Reading}
 use Rattle.sheet.proofs.ReadingLaws.{same-result, apart}
-use Rattle.sheet.proofs.AcceptedLaws.{HasForm, instance-is, accepts, door}
-use Rattle.sheet.proofs.CostBounds.{total-fits, service-fits}
-use Rattle.price.specs.Plan.{question9, writing}
+use Rattle.sheet.proofs.AcceptedLaws.{shape-of, instance-is, accepts, passes-five}
+use Rattle.price.specs.Plan.{question9}
+use Rattle.price.specs.Known.{Known, writingBy}
 use Rattle.price.specs.Pricing.{Plan, result, meaning, answer, areaAfter}
 use Rattle.price.specs.declared.Planned.{Planned}
 use Rattle.price.proofs.PricingLaws.{makes, writes-of}
+use Rattle.price.proofs.KnownLaws.{known-plan}
 use Rattle.search.specs.declared.descent.Settled.{Settled}
-use Rattle.search.specs.Settling.{settledAt, openEnd, limitedEnd, planOf}
+use Rattle.search.specs.declared.moves.Neighbourhood.{Neighbourhood}
+use Rattle.search.specs.declared.moves.Neighbourhood.the-variants.{AddDropSwap, Swap}
+use Rattle.search.specs.Settling.{planOf}
 use Rattle.search.specs.Planning.{openPlan, limitedPlan, question7, openPlanning, limitedPlanning}
-
--- ---- the plan of what the search settled on
-
--- of the instance that is read off by its counts
-module _ (s : List ℕ) (m n : ℕ) (r : Settled) (form : HasForm s m n) where
-  pub open-made : r ≡ openEnd (instanceBy s m n) → planOf (instanceBy s m n) r ≡ openPlan (instanceOf s)
-  unfolding openPlan
-  open-made e = ap (planOf (instanceBy s m n)) e ∙ ap (λ I. planOf I (openEnd I)) (instance-is form)
-
-  pub limited-made : (k : ℕ) → r ≡ limitedEnd (instanceBy s m n) k → planOf (instanceBy s m n) r ≡ limitedPlan (instanceOf s) k
-  unfolding limitedPlan
-  limited-made k e = ap (planOf (instanceBy s m n)) e ∙ ap (λ I. planOf I (limitedEnd I k)) (instance-is form)
-
--- cost and moves of what a search settled on are at most the start's cost, so they fit an amount
-module _ (cost : ℕ → ℕ) (neighbours : ℕ → List ℕ) (start : ℕ) (r : Settled) (e : r ≡ settledAt cost (search cost neighbours start)) where
-  small-by : cost start < 2 ^ 32 → (r .cost < 2 ^ 32) × (r .moves < 2 ^ 32)
-  unfolding settledAt
-  small-by small =
-      let end = search-ends cost neighbours start in
-      rw e (omega (arith, end .few-steps), omega (arith, end .few-steps))
-
-module _ (s : List ℕ) (m n : ℕ) (r : Settled) (e : reading s ≡ accepted (counts m n)) where
-  open-total : (set : ℕ) → openCost (instanceBy s m n) set < 2 ^ 32
-  unfolding openCost
-  open-total set = rw (instance-is (accepts s m n e .has)) (total-fits (instanceOf s) (door s m n e) (member set))
-
-  limited-total : (set : ℕ) → limitedCost (instanceBy s m n) set < 2 ^ 32
-  unfolding limitedCost
-  limited-total set = rw (instance-is (accepts s m n e .has)) (service-fits (instanceOf s) (door s m n e) (member set))
-
-  pub open-small : r ≡ openEnd (instanceBy s m n) → (r .cost < 2 ^ 32) × (r .moves < 2 ^ 32)
-  unfolding openEnd openSearch
-  open-small h = small-by _ _ _ r h (open-total _)
-
-  pub limited-small : (k : ℕ) → r ≡ limitedEnd (instanceBy s m n) k → (r .cost < 2 ^ 32) × (r .moves < 2 ^ 32)
-  unfolding limitedEnd limitedSearch
-  limited-small k h = small-by _ _ _ r h (limited-total _)
+use Rattle.search.specs.Preparing.{endBy, ReadAs, planningAfter}
+use Rattle.search.specs.WithoutRule.{openPlanningWithoutRule, limitedPlanningWithoutRule}
 
 -- what a call that wrote the plan q answers and leaves, where q is the plan that it is to make
 pub made : (outcome : Answer Plan) (p q : Plan) (r : Planned) (area next : List ℕ) → outcome ≡ accepted p → q ≡ p
@@ -73,15 +39,17 @@ made outcome p q r area next e same-plan says leaves =
     let is : accepted q ≡ outcome = ap accepted same-plan ∙ sym e in
     (says ∙ ap answer is, leaves ∙ ap (λ o. areaAfter o area) is)
 
--- the writer, given a settled set, leaves its plan
-pub writes-settled : (s : List ℕ) (m n : ℕ) (r : Settled) (area next : List ℕ) (bytes : ℕ) → Shape s m n → question9 m n (length area) ≡ true
-    → bytes ≡ length (writing s m n (r .set) (r .cost) (r .moves) (length area))
-    → next ≡ splice area 0 (writing s m n (r .set) (r .cost) (r .moves) (length area))
+-- the writer, given a settled set and its farms' nearest yards, leaves its plan
+pub writes-settled : (s : List ℕ) (m n : ℕ) (r : Settled) (numbers area next : List ℕ) (bytes : ℕ) → Shape s m n
+    → question9 m n (length area) ≡ true → Known s m n (r .set) numbers
+    → bytes ≡ length (writingBy s m n (r .set) numbers (r .cost) (r .moves) (length area))
+    → next ≡ splice area 0 (writingBy s m n (r .set) numbers (r .cost) (r .moves) (length area))
     → (accepted (result bytes (r .moves)) ≡ answer (accepted (planOf (instanceBy s m n) r)))
     × (next ≡ areaAfter (accepted (planOf (instanceBy s m n) r)) area)
 unfolding planOf
-writes-settled s m n r area next bytes shape q long put =
-    let is = writes-of s m n (r .set) (r .cost) (r .moves) (length area) shape q in
+writes-settled s m n r numbers area next bytes shape q known long put =
+    let is = known-plan s m n (r .set) numbers known (r .cost) (r .moves) (length area)
+    ∙ writes-of s m n (r .set) (r .cost) (r .moves) (length area) shape q in
     makes (accepted (planOf (instanceBy s m n) r)) area _ next bytes (r .moves) refl (long ∙ ap length is) refl (put ∙ ap (splice area 0) is)
 
 -- ---- question 7
@@ -103,38 +71,73 @@ module _ (m k : ℕ) where
   unfolding question7
   k-within h = (leb-true 1 k (and-left _ _ h), leb-true k m (and-right (leb 1 k) _ h))
 
--- ---- the cases
+-- ---- the cases after reading
 
-module _ (s : List ℕ) (room : ℕ) where
-  pub open-unread : (number : ℕ) → reading s ≡ refused number → openPlanning s room ≡ refused number
-  unfolding openPlanning
-  open-unread number e = rw e
+module _ (r : Reading) (moves : Neighbourhood) (s : List ℕ) (k room : ℕ) where
+  pub after-refusal : (number : ℕ) → readingMeaning r ≡ refused number → planningAfter r moves s k room ≡ refused number
+  unfolding planningAfter
+  after-refusal number e = rw e
 
-  pub limited-unread : (k number : ℕ) → reading s ≡ refused number → limitedPlanning s k room ≡ refused number
-  unfolding limitedPlanning
-  limited-unread k number e = rw e
+  module _ (m n : ℕ) (e : readingMeaning r ≡ accepted (counts m n)) where
+    pub after-bad-k : question7 m k ≡ false → planningAfter r moves s k room ≡ refused 7
+    unfolding planningAfter
+    after-bad-k q = rw (e, q)
 
-  module _ (m n : ℕ) (e : reading s ≡ accepted (counts m n)) where
-    pub open-no-room : question9 m n room ≡ false → openPlanning s room ≡ refused 9
-    unfolding openPlanning
-    open-no-room q = rw (e, q)
+    pub after-no-room : question7 m k ≡ true → question9 m n room ≡ false → planningAfter r moves s k room ≡ refused 9
+    unfolding planningAfter
+    after-no-room q h = rw (e, q, h)
 
-    pub open-planned : question9 m n room ≡ true → openPlanning s room ≡ accepted (openPlan (instanceOf s))
-    unfolding openPlanning
-    open-planned q = rw (e, q)
+    pub after-planned : question7 m k ≡ true → question9 m n room ≡ true → instanceBy s m n ≡ instanceOf s
+        → planningAfter r moves s k room ≡ accepted (planOf (instanceBy s m n) (endBy moves (instanceBy s m n) k))
+    unfolding planningAfter
+    after-planned q h same = rw (e, q, h) (ap (λ I. accepted (planOf I (endBy moves I k))) (sym same))
 
-    module _ (k : ℕ) where
-      pub limited-bad-k : question7 m k ≡ false → limitedPlanning s k room ≡ refused 7
-      unfolding limitedPlanning
-      limited-bad-k q = rw (e, q)
+-- ---- which are the cases of the calls
 
-      pub limited-no-room : question7 m k ≡ true → question9 m n room ≡ false → limitedPlanning s k room ≡ refused 9
-      unfolding limitedPlanning
-      limited-no-room q h = rw (e, q, h)
+-- what reading says of a sheet is so, with question 6 and without it
+pub read-as : (s : List ℕ) (r : Reading) → readingMeaning r ≡ reading s → ReadAs s r
+read-as s r e m n h =
+    let all = accepts s m n (sym e ∙ h) in
+    record { shape = shape-of (all .has); within = record { fees = all .fees; hauls = all .hauls-within }; instance-is = instance-is (all .has) }
 
-      pub limited-planned : question7 m k ≡ true → question9 m n room ≡ true → limitedPlanning s k room ≡ accepted (limitedPlan (instanceOf s) k)
-      unfolding limitedPlanning
-      limited-planned q h = rw (e, q, h)
+pub read-as-five : (s : List ℕ) (r : Reading) → readingMeaning r ≡ formAndAmounts s → ReadAs s r
+read-as-five s r e m n h =
+    let five = passes-five s m n (sym e ∙ h) in
+    record { shape = shape-of (five .has); within = record { fees = five .fees; hauls = five .hauls-within }; instance-is = instance-is (five .has) }
+
+after-same : {A B : Type 0} (a : Answer A) (f g : A → Answer B) → ((x : A) → a ≡ accepted x → f x ≡ g x) → after a f ≡ after a g
+after-same (accepted x) f g h = h x refl
+after-same (refused k) f g h = refl
+
+-- an open plan asks no question 7, and k of 1 passes it where a yard is there
+open-asks : (a : Answer Counts) (s : List ℕ) (room : ℕ) → ((m n : ℕ) → a ≡ accepted (counts m n) → 1 ≤ m)
+    → after a (λ c. ask (question7 (c .yards) 1) 7 (ask (question9 (c .yards) (c .farms) room) 9 (accepted (planOf (instanceOf s) (endBy AddDropSwap (instanceOf s) 1)))))
+    ≡ after a (λ c. ask (question9 (c .yards) (c .farms) room) 9 (accepted (openPlan (instanceOf s))))
+unfolding openPlan endBy
+open-asks a s room some =
+    after-same a _ _ (λ c e. rw (k-good (c .yards) 1 (omega arith) (some (c .yards) (c .farms) e)))
+
+module _ (s : List ℕ) (r : Reading) (room : ℕ) where
+  pub open-after : readingMeaning r ≡ reading s → planningAfter r AddDropSwap s 1 room ≡ openPlanning s room
+  unfolding planningAfter openPlanning
+  open-after e = rw e (open-asks (reading s) s room (λ m n h. accepts s m n h .has .some-yards))
+
+  pub open-after-five : readingMeaning r ≡ formAndAmounts s → planningAfter r AddDropSwap s 1 room ≡ openPlanningWithoutRule s room
+  unfolding planningAfter openPlanningWithoutRule
+  open-after-five e = rw e (open-asks (formAndAmounts s) s room (λ m n h. passes-five s m n h .has .some-yards))
+
+  pub limited-after : (k : ℕ) → readingMeaning r ≡ reading s → planningAfter r Swap s k room ≡ limitedPlanning s k room
+  unfolding planningAfter limitedPlanning limitedPlan endBy
+  limited-after k e = rw e
+
+  pub limited-after-five : (k : ℕ) → readingMeaning r ≡ formAndAmounts s → planningAfter r Swap s k room ≡ limitedPlanningWithoutRule s k room
+  unfolding planningAfter limitedPlanningWithoutRule limitedPlan endBy
+  limited-after-five k e = rw e
+
+-- what a call answers and leaves, by another name for its outcome
+pub as-outcome : {outcome other : Answer Plan} → other ≡ outcome → (r : Planned) (area next : List ℕ)
+    → (meaning r ≡ answer other) × (next ≡ areaAfter other area) → (meaning r ≡ answer outcome) × (next ≡ areaAfter outcome area)
+as-outcome e r area next h = subst (λ o. (meaning r ≡ answer o) × (next ≡ areaAfter o area)) e h
 
 -- ---- and back: where a plan is made, the sheet was accepted and the questions were answered yes
 

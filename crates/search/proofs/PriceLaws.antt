@@ -164,6 +164,9 @@ module _ (m n : ℕ) (opening service : List ℕ) (set : ℕ) (kept : List ℕ)
       let each = sum-bound n 1000000 (λ j. firstAt kept j / 32) (λ j l. omega (arith, here .sums .ordered j l, here .sums .within j l)) in
       omega (arith, here .sums .rows .few-clients, served-now)
 
+  pub cost-few : Fees m opening → tableCost m n opening service set ≤ 2000000000
+  cost-few fees = omega (arith, cost-by set S (λ k. refl), opening-few fees, served-few)
+
   -- what is added up place by place
   pub adding : (k : ℕ) (costs : List ℕ) → Fees m opening → k ≡ openingCost I S → 32 ≤ length costs → Adding k opening kept costs
   adding k costs fees e room =
@@ -225,7 +228,7 @@ module _ (m n : ℕ) (opening service : List ℕ) (set : ℕ) (kept : List ℕ)
           opening-small = fees .small;
           costs-small = λ i l. omega (arith, filled i l, opening-few fees, fees .high i l, kept-small (here .sums) (256 + i) (omega arith) (omega arith));
           kept-small = kept-small (here .sums);
-          cost-small = omega (arith, cost-by set S (λ k. refl), opening-few fees, served-few);
+          cost-small = cost-few fees;
           add = add-is;
           drop = drop-is;
           swap = swap-is;

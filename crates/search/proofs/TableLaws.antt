@@ -147,18 +147,19 @@ service-sum m n opening service S = service-once (tabled m n opening service) (�
 
 -- ---- tables filled from a sheet
 
-module _ (s : List ℕ) (m n : ℕ) (opening service : List ℕ) where
-  entry-haul : Holds s m (n * m) service → (i j : ℕ) → i < m → j < n → getD service (j * m + i) 0 ≡ haul s m i j
-  unfolding haul
-  entry-haul held i j facility client =
-      held (j * m + i) (omega (arith, row-within m n j client)) ∙ ap (λ (k : ℕ). recordAt s k .amount) (omega arith)
+pub entry-haul : (s : List ℕ) (m n : ℕ) (service : List ℕ) → Holds s m (n * m) service → (i j : ℕ) → i < m → j < n
+    → getD service (j * m + i) 0 ≡ haul s m i j
+unfolding haul
+entry-haul s m n service held i j facility client =
+    held (j * m + i) (omega (arith, row-within m n j client)) ∙ ap (λ (k : ℕ). recordAt s k .amount) (omega arith)
 
+module _ (s : List ℕ) (m n : ℕ) (opening service : List ℕ) where
   same-served : Holds s m (n * m) service → (S : ℕ → Bool)
       → serviceCost (tabled m n opening service) S ≡ serviceCost (instanceBy s m n) S
   unfolding tabled instanceBy
   same-served held S =
       same-service (tabled m n opening service) (instanceBy s m n) S refl refl
-      (λ i j facility client. ap (λ x. 1 * x) (entry-haul held i j facility client))
+      (λ i j facility client. ap (λ x. 1 * x) (entry-haul s m n service held i j facility client))
 
   same-opened : Holds s 0 m opening → (S : ℕ → Bool) → openingCost (tabled m n opening service) S ≡ openingCost (instanceBy s m n) S
   unfolding tabled instanceBy fee

@@ -1,7 +1,8 @@
 -- Tables: the instance that the search's tables hold, for private functions alone. Settling: a set with its cost, the kinds of move,
 -- where the searches end. Prices: what the search keeps to price every move, for private functions alone.
 -- Planning: question 7, and what the two plans answer and write. Promises: "no move left" and demand 3.
--- Searching: the two searches alone, without question 6. Taking: what going through the moves takes, for private functions alone.
+-- WithoutRule: the same without question 6. Taking: what going through the moves takes, Preparing: what every plan goes through, both for
+-- private functions alone.
 pub mod Tables
 pub mod Amounts
 pub mod Prices
@@ -14,4 +15,5 @@ pub mod Standing
 pub mod Settling
 pub mod Planning
 pub mod Promises
-pub mod Searching
+pub mod Preparing
+pub mod WithoutRule

@@ -97,7 +97,9 @@ pub(crate) fn settle(
     kept: &mut [u32],
 ) -> Settled
     requires { ⌜ Kept m n (now service) (now kept) × NearUpTo m n (now service) (now kept) start 0 × Fees m (now opening) × (start < 2 ^ m) × (any m (member start) ≡ true) ⌝ }
-    ensures { λ r. ⌜ r ≡ settledAt (tableCost m n (now (opening .entry)) (now (service .entry))) (search (tableCost m n (now (opening .entry)) (now (service .entry))) (neighboursBy neighbourhood m) start) ⌝ }
+    ensures end { λ r. ⌜ r ≡ settledAt (tableCost m n (now (opening .entry)) (now (service .entry))) (search (tableCost m n (now (opening .entry)) (now (service .entry))) (neighboursBy neighbourhood m) start) ⌝ }
+    ensures small { λ r. ⌜ (r .cost < 2 ^ 32) × (r .moves < 2 ^ 32) ⌝ }
+    ensures standing { λ r. ⌜ Standing m n (now (service .entry)) (r .set) (now (kept .exit)) ⌝ }
 {
     begin(service, m, n, start, kept);
     let fees = opening_cost(opening, service, m, n, start);

@@ -6,16 +6,15 @@ use Rattle.sheet.specs.Reading.{Counts}
 use Rattle.sheet.specs.OnePass.{formAndAmounts}
 use Rattle.price.specs.Plan.{planFits, writing}
 use Rattle.price.specs.Pricing.{Result, Plan, question8}
-use Rattle.search.specs.Searching.{Search}
 
 -- Reading: from bit 8 the yards, from bit 16 the farms. A refused call gives its number alone.
 abbrev pub countsNumber : Answer Counts → ℕ
 countsNumber (accepted c) = c .yards * 2 ^ 8 + c .farms * 2 ^ 16
 countsNumber (refused k) = k
 
--- Pricing and the plans: from bit 8 the bytes written, from bit 32 the moves. A refused call gives its number alone.
+-- Pricing and the plans: from bit 8 the bytes written, as 24 bits hold them, from bit 32 the moves. A refused call gives its number alone.
 abbrev pub resultNumber : Answer Result → ℕ
-resultNumber (accepted r) = r .bytes * 2 ^ 8 + r .moves * 2 ^ 32
+resultNumber (accepted r) = r .bytes % 2 ^ 24 * 2 ^ 8 + r .moves * 2 ^ 32
 resultNumber (refused k) = k
 
 -- question 9, and the plan of a set on a sheet of these counts
@@ -27,8 +26,3 @@ written s c set total moves room =
 -- pricing asks 1 to 5, 8 and 9; the total in the record is 0
 unfoldable pub pricing : List ℕ → ℕ → ℕ → Answer Plan
 pricing s set room = after (formAndAmounts s) (λ c. ask (question8 (c .yards) set) 8 (written s c set 0 0 room))
-
--- the plan of what a search gives: total and moves as the four bytes of an amount hold them
-unfoldable pub planning : List ℕ → Answer Search → ℕ → Answer Plan
-planning s search room =
-    after search (λ f. written s (f .counts) (f .end .set) (f .end .cost % 2 ^ 32) (f .end .moves % 2 ^ 32) room)

@@ -7,16 +7,18 @@ ghost use Prim.Native.Nat.{_≤_};
 ghost use lib.ListN.{length};
 ghost use Rattle.sheet.specs.Reading.{counts};
 ghost use Rattle.sheet.specs.OnePass.{formAndAmounts};
-ghost use Rattle.price.specs.Pricing.{answer, areaAfter, question8};
-ghost use Rattle.search.specs.Searching.{found, openSearching, limitedSearching};
-ghost use Rattle.timing.specs.Timing.{countsNumber, resultNumber, written, pricing, planning};
-use search::Searched;
+ghost use Rattle.price.specs.Pricing.{meaning, answer, areaAfter, question8};
+ghost use Rattle.search.specs.WithoutRule.{openPlanningWithoutRule, limitedPlanningWithoutRule};
+ghost use Rattle.timing.specs.Timing.{countsNumber, resultNumber, written, pricing};
+use price::Planned;
 use sheet::Reading;
 
-// What the parts of a number count for that begin at bit 8, at bit 16 and at bit 32.
+// What the parts of a number count for that begin at bit 8, at bit 16, at bit 24 and at bit 32.
 const BIT_8: u64 = 256;
 
 const BIT_16: u64 = 65536;
+
+const BIT_24: u64 = 16777216;
 
 const BIT_32: u64 = 4294967296;
 
@@ -52,41 +54,31 @@ pub extern "C" fn timing_price(sheet: &[u8], set: u32, area: &mut [u8]) -> u64
 // Asks questions 1 to 5 and 9 and writes the open plan; the number as for pricing.
 #[no_mangle]
 pub extern "C" fn timing_open_plan(sheet: &[u8], area: &mut [u8]) -> u64
-    ensures answer { λ r. ⌜ r ≡ resultNumber (answer (planning (now (sheet .entry)) (openSearching (now (sheet .entry))) (length (now (area .entry))))) ⌝ }
-    ensures area { λ r. ⌜ now (area .exit) ≡ areaAfter (planning (now (sheet .entry)) (openSearching (now (sheet .entry))) (length (now (area .entry)))) (now (area .entry)) ⌝ }
+    ensures answer { λ r. ⌜ r ≡ resultNumber (answer (openPlanningWithoutRule (now (sheet .entry)) (length (now (area .entry))))) ⌝ }
+    ensures area { λ r. ⌜ now (area .exit) ≡ areaAfter (openPlanningWithoutRule (now (sheet .entry)) (length (now (area .entry)))) (now (area .entry)) ⌝ }
 {
-    let end = search::open_search_of(sheet);
-    write_found(sheet, end, area)
+    let planned = search::open_plan_without_rule(sheet, area);
+    number(planned)
 }
 
 // Asks questions 1 to 5, 7 and 9 and writes the limited plan for k yards; the number as for pricing.
 #[no_mangle]
 pub extern "C" fn timing_limited_plan(sheet: &[u8], k: usize, area: &mut [u8]) -> u64
-    ensures answer { λ r. ⌜ r ≡ resultNumber (answer (planning (now (sheet .entry)) (limitedSearching (now (sheet .entry)) k) (length (now (area .entry))))) ⌝ }
-    ensures area { λ r. ⌜ now (area .exit) ≡ areaAfter (planning (now (sheet .entry)) (limitedSearching (now (sheet .entry)) k) (length (now (area .entry)))) (now (area .entry)) ⌝ }
+    ensures answer { λ r. ⌜ r ≡ resultNumber (answer (limitedPlanningWithoutRule (now (sheet .entry)) k (length (now (area .entry))))) ⌝ }
+    ensures area { λ r. ⌜ now (area .exit) ≡ areaAfter (limitedPlanningWithoutRule (now (sheet .entry)) k (length (now (area .entry)))) (now (area .entry)) ⌝ }
 {
-    let end = search::limited_search_of(sheet, k);
-    write_found(sheet, end, area)
+    let planned = search::limited_plan_without_rule(sheet, k, area);
+    number(planned)
 }
 
-// Writes the plan of the set that a search ended in. Total and moves go into records of four bytes.
-fn write_found(sheet: &[u8], end: Searched, area: &mut [u8]) -> u64
-    ensures answer { λ r. ⌜ r ≡ resultNumber (answer (planning (now (sheet .entry)) (found end) (length (now (area .entry))))) ⌝ }
-    ensures area { λ r. ⌜ now (area .exit) ≡ areaAfter (planning (now (sheet .entry)) (found end) (length (now (area .entry)))) (now (area .entry)) ⌝ }
+// The answer of a call that writes a plan, as a number.
+fn number(planned: Planned) -> u64
+    ensures { λ r. ⌜ r ≡ resultNumber (meaning planned) ⌝ }
 {
-    match end {
-        Searched::Found {
-            yards,
-            farms,
-            set,
-            cost,
-            moves,
-        } => {
-            let total = (cost % BIT_32) as u32;
-            let made = (moves % BIT_32) as u32;
-            write(sheet, yards, farms, set, total, made, area)
-        }
-        Searched::Refused(number) => number as u64,
+    match planned {
+        Planned::Written { bytes, moves } => (bytes as u64) % BIT_24 * BIT_8
+            + (moves as u64) * BIT_32,
+        Planned::Refused(refusal) => refusal as u64,
     }
 }
 
@@ -107,7 +99,7 @@ fn write(
         return 9;
     }
     let bytes = price::write_plan(sheet, yards, farms, set, total, moves, area);
-    (bytes as u64) * BIT_8 + (moves as u64) * BIT_32
+    number(Planned::Written { bytes, moves })
 }
 
 // Question 8, of a sheet of m yards.

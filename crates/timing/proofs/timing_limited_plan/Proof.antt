@@ -1,27 +1,22 @@
--- `timing_limited_plan` meets its contract: `write_found` does, of what the search gives.
-use mathlib.Core.Path.{ap}
-use lib.ListN.{length}
-use Rattle.timing.specs.Timing.{planning}
-use Rattle.timing.proofs.TimingLaws.{gives-same}
+-- `timing_limited_plan` meets its contract: `search::limited_plan_without_rule` does, and its answer is given as a number.
+use mathlib.Core.Path.{ap, _∙_}
+use Rattle.timing.specs.Timing.{resultNumber}
 use borrow.Author.Needs.{needs}
 use Rattle.timing.proofs.timing_limited_plan.Statement.{statement}
 use Rattle.timing.proofs.timing_limited_plan.Tie as tie
 
-limited-search-of-requires : tie.Need-limited-search-of-requires
-limited-search-of-requires c κs = search needs
+limited-plan-without-rule-requires : tie.Need-limited-plan-without-rule-requires
+limited-plan-without-rule-requires c κs = search needs
 
-write-found-requires : tie.Need-write-found-requires
-write-found-requires c κs = search needs
+number-requires : tie.Need-number-requires
+number-requires c κs = search needs
 
 same-length : tie.Need-same-length
 same-length c = search needs
 
 returns : tie.Need-returns
-returns c = let w = c .before .before in
-    let ended = w .before .before in
-    let args = ended .before .before .before .args in
-    gives-same (ap (λ e. planning (args .sheet .now) e (length (args .area .now))) (ended .limited-search-of .ensures)) _ _ _ (w .write-found .ensures)
+returns c = let planned = c .before .before .before .limited-plan-without-rule .ensures in (c .number .ensures ∙ ap resultNumber (planned .0), planned .1)
 
 pub timing-limited-plan-spec : {M : Type 1} → statement M
 timing-limited-plan-spec =
-    tie.close (tie.spec limited-search-of-requires write-found-requires same-length returns)
+    tie.close (tie.spec limited-plan-without-rule-requires number-requires same-length returns)

@@ -1,6 +1,7 @@
 -- `descent::settle` meets its contract. The invariant: the search goes on from b as it would from the start, the table is that of b's
 -- set, and b's cost falls.
 use mathlib.Core.Path.{_≡_, refl, _∙_}
+use Prim.Native.Nat.{_≤_}
 use native.Mathlib.Omega.{arith}
 use lib.ListN.{length}
 use Rattle.model.proofs.NeighbourLaws.{move-keeps}
@@ -10,7 +11,7 @@ use Rattle.search.specs.Standing.{Standing}
 use Rattle.search.proofs.TableLaws.{tables-of}
 use Rattle.search.proofs.MoveLaws.{prices}
 use Rattle.search.proofs.NearLaws.{moved-is}
-use Rattle.search.proofs.PriceLaws.{cost-now}
+use Rattle.search.proofs.PriceLaws.{cost-now, cost-few}
 use Rattle.search.proofs.DescentLaws.{Going, going-starts, going-on, going-ends, step-move}
 use Rattle.search.proofs.descent.settle.Statement.{statement}
 use Rattle.search.proofs.descent.settle.Tie as tie
@@ -18,7 +19,7 @@ use Rattle.search.proofs.descent.settle.Tie as tie
 abbrev Inv-loop : tie.InvT-loop
 Inv-loop neighbourhood opening service m n start kept₀ fees b₀ made₀ kept b made =
     Going (tableCost m n opening service) (neighboursBy neighbourhood m) b₀ b made
-    × Standing m n service (b .set) kept × (length kept ≡ length kept₀)
+    × Standing m n service (b .set) kept × (length kept ≡ length kept₀) × (b₀ .cost ≤ 2000000000)
 
 abbrev μ-loop : tie.MeasureT-loop
 μ-loop neighbourhood opening service m n start kept₀ fees b₀ made₀ kept b made = b .cost
@@ -39,11 +40,13 @@ add-t20 c = let rows = c .before .before .before .before .before .begin .ensures
 
 loop-holds : tie.Need-loop-holds Inv-loop μ-loop
 loop-holds c = let here = c .before .before .before .before .before .begin .ensures in
-    let a = c .before .before .before .before .before .before .before .before .before .before .args in
+    let start = c .before .before .before .before .before .before .before .before .before .before in
+    let a = start .args in
     let cost = tableCost (a .m) (a .n) (a .opening .now) (a .service .now) in
     let cost-is =
     cost-now (a .m) (a .n) (a .opening .now) (a .service .now) (a .start) _ here _ _ (c .before .before .opening-cost .ensures .0) (c .nearest-costs .ensures .0) in
-    (going-starts cost _ _ (prices cost (a .start) _ cost-is), here, refl)
+    let few = cost-few (a .m) (a .n) (a .opening .now) (a .service .now) (a .start) _ here (start .pre .2) in
+    (going-starts cost _ _ (prices cost (a .start) _ cost-is), here, refl, omega (arith, cost-is, few))
 
 choose-requires : tie.Need-choose-requires Inv-loop μ-loop
 choose-requires c κs = let l = c .before .loop in
@@ -79,14 +82,17 @@ loop-again c = let l = c .before .before .before .before .before .before .before
   going-on _ _ _ (l .b) _ _ (l .inv .0) (c .before .before .before .before .before .choose .ensures) (c .before .before .before .before .if1 .left),
   c .before .before .move-to .ensures,
   c .before .kept2 .given ∙ l .inv .2,
+  l .inv .3,
 )
 
 same-length : tie.Need-same-length Inv-loop μ-loop
 same-length c = c .before .before .before .loop .inv .2 ∙ c .before .before .before .before .before .before .before .before .kept .given
 
 returns : tie.Need-returns Inv-loop μ-loop
-returns c = let l = c .before .before .before .loop in
-    going-ends _ _ _ (l .b) _ _ (l .inv .0) (c .before .choose .ensures) (c .if1 .taken)
+returns c = let l = c .before .before .before .loop in (
+  going-ends _ _ _ (l .b) _ _ (l .inv .0) (c .before .choose .ensures) (c .if1 .taken),
+  ((omega (arith, l .inv .0 .room, l .inv .3), omega (arith, l .inv .0 .room, l .inv .3)), l .inv .1),
+)
 
 pub settle-spec : {M : Type 1} → statement M
 settle-spec =

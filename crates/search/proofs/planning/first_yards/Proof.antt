@@ -1,11 +1,11 @@
--- `first_yards` meets its contract: the shift is exact, and 2 ^ k - 1 has at most 32 bits.
+-- `planning::first_yards` meets its contract: the shift is exact, and 2 ^ k - 1 has at most 32 bits.
 use native.Mathlib.Omega.{arith}
 use lib.Pow.{pow-pos, pow-mono}
 use Rattle.model.specs.Plans.{limitedStart}
 use Rattle.model.proofs.SetLaws.{one-shl}
 use borrow.Author.Needs.{needs}
-use Rattle.search.proofs.first_yards.Statement.{statement}
-use Rattle.search.proofs.first_yards.Tie as tie
+use Rattle.search.proofs.planning.first_yards.Statement.{statement}
+use Rattle.search.proofs.planning.first_yards.Tie as tie
 
 shl-result : tie.Need-shl-result
 shl-result c = search needs
