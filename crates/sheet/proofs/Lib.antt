@@ -8,4 +8,5 @@ pub mod ShapeLaws
 pub mod AcceptedLaws
 pub mod FarmLaws
 pub mod OnePassLaws
+pub mod RestLaws
 pub mod CostBounds

@@ -1,11 +1,11 @@
 // Questions 1 to 5 in one pass over a good sheet. Where the pass finds a fault, the questions are asked one by one, for the number
 // of the first that is answered no.
 ghost use mathlib.Core.Path.{_≡_};
+ghost use mathlib.Core.Bool.{true};
 ghost use Prim.Native.Nat.{_+_, _*_, _≤_};
 ghost use lib.ListN.{length};
 ghost use Rattle.model.specs.Loops.{allBelow};
-ghost use Rattle.sheet.specs.Sheet.{place};
-ghost use Rattle.sheet.specs.OnePass.{goodYard, goodHaul, goodFarm, Told, formAndAmounts};
+ghost use Rattle.sheet.specs.OnePass.{goodYard, goodFarm, GoodRests, Told, formAndAmounts};
 ghost use Rattle.sheet.specs.Reading.{meaning, form};
 use crate::MOST_FARMS;
 use crate::MOST_YARDS;
@@ -15,6 +15,12 @@ use crate::form;
 use crate::record::KIND_HAUL;
 use crate::record::KIND_YARD;
 use crate::record::Record;
+
+// A power of two above every haul within bounds, as the amount of a record's number.
+const ABOVE_HAULS: u64 = 1048576 * Record::AMOUNT;
+
+// What takes the least haul that is too high to it.
+const RAISE: u64 = ABOVE_HAULS - (amounts::MOST_HAUL as u64 + 1) * Record::AMOUNT;
 
 // What the one pass answers: the counts of a sheet that passes questions 1 to 5, or that it finds some fault.
 pub(crate) enum OnePass {
@@ -95,31 +101,43 @@ fn good_yards(sheet: &[u8], m: usize) -> bool
     true
 }
 
-fn good_haul(sheet: &[u8], m: usize, p: usize, a: usize) -> bool
-    requires { ⌜ (8 * place m p a + 8 ≤ length (now sheet)) × (p ≤ 255) × (a ≤ 255) ⌝ }
-    ensures { λ r. ⌜ r ≡ goodHaul (now (sheet .entry)) m p a ⌝ }
-{
-    Record::within(sheet, m + p * m + a).is(KIND_HAUL, a as u8, p as u8, amounts::MOST_HAUL)
+// The numbers of a farm's records, each less the head that its place asks for, joined bit by bit: as they are, and raised so that a
+// haul above the bound reaches `ABOVE_HAULS`.
+struct Rests {
+    plain: u64,
+    raised: u64,
 }
 
 // No return at the first bad haul: without it the loop runs faster.
-fn good_farm(sheet: &[u8], m: usize, p: usize) -> bool
+fn rests_of(sheet: &[u8], m: usize, p: usize) -> Rests
     requires { ⌜ (8 * (m + p * m) + 8 * m ≤ length (now sheet)) × (m ≤ 32) × (p ≤ 128) ⌝ }
-    ensures { λ r. ⌜ r ≡ goodFarm (now (sheet .entry)) m p ⌝ }
+    ensures { λ r. ⌜ (GoodRests (r .plain) (r .raised) → goodFarm (now (sheet .entry)) m p ≡ true) ⌝ }
 {
-    let mut good = true;
+    let head = (KIND_HAUL as u64) + Record::FARM * (p as u64);
+    let mut plain: u64 = 0;
+    let mut raised: u64 = 0;
     let mut a = 0;
     while a < m {
-        let here = good_haul(sheet, m, p, a);
-        good = good && here;
+        let number = Record::within(sheet, m + p * m + a).number();
+        let rest = std::num::wrapping_sub_u64(number, head + Record::YARD * (a as u64));
+        plain = plain | rest;
+        raised = raised | std::num::wrapping_add_u64(rest, RAISE);
         a += 1;
     }
-    good
+    Rests { plain, raised }
+}
+
+fn good_farm(sheet: &[u8], m: usize, p: usize) -> bool
+    requires { ⌜ (8 * (m + p * m) + 8 * m ≤ length (now sheet)) × (m ≤ 32) × (p ≤ 128) ⌝ }
+    ensures { λ r. ⌜ (r ≡ true → goodFarm (now (sheet .entry)) m p ≡ true) ⌝ }
+{
+    let rests = rests_of(sheet, m, p);
+    rests.plain % Record::AMOUNT == 0 && (rests.plain < ABOVE_HAULS && rests.raised < ABOVE_HAULS)
 }
 
 fn good_farms(sheet: &[u8], m: usize, n: usize) -> bool
     requires { ⌜ (8 * (m + n * m) ≤ length (now sheet)) × (m ≤ 32) × (n ≤ 128) ⌝ }
-    ensures { λ r. ⌜ r ≡ allBelow n (goodFarm (now (sheet .entry)) m) ⌝ }
+    ensures { λ r. ⌜ (r ≡ true → allBelow n (goodFarm (now (sheet .entry)) m) ≡ true) ⌝ }
 {
     let mut p = 0;
     while p < n {

@@ -1,5 +1,6 @@
 -- `one_pass::counts_of` meets its contract: counts are given only after every test.
 use native.Mathlib.Omega.{arith}
+use borrow.Author.Tests.{not-false}
 use Rattle.model.proofs.Bools.{said-yes}
 use Rattle.sheet.proofs.FormLaws.{yards-le}
 use Rattle.sheet.proofs.ShapeLaws.{few-hauls}
@@ -62,7 +63,7 @@ returns-9 c = let yards-tested = c .before .before in
     (said-yes (first .before .length-good .ensures) (first .if1 .left)) (omega arith) (omega arith) (omega arith) (omega arith)
     (yards-tested .before .before .if6 .left)
     (said-yes (yards-tested .before .good-yards .ensures) (yards-tested .if7 .left))
-    (said-yes (c .before .good-farms .ensures) (c .if8 .left))
+    (c .before .good-farms .ensures (not-false _ (c .if8 .left)))
 
 pub counts-of-spec : {M : Type 1} → statement M
 counts-of-spec =

@@ -1,11 +1,12 @@
 -- `one_pass::good_farms` meets its contract. The invariant: every farm passed has its hauls.
-use mathlib.Core.Path.{_≡_, sym}
+use mathlib.Core.Path.{_≡_, refl, sym}
 use mathlib.Core.Bool.{true}
 use Prim.Native.Nat.{_≤_, _-_}
 use native.Mathlib.Omega.{arith}
-use Rattle.model.proofs.Bools.{said-no, said-yes}
+use borrow.Author.Tests.{not-false}
+use Rattle.model.proofs.Bools.{clash}
 use Rattle.model.specs.Loops.{allBelow}
-use Rattle.model.proofs.LoopLaws.{all-none, all-more, all-stops}
+use Rattle.model.proofs.LoopLaws.{all-none, all-more}
 use Rattle.sheet.proofs.ShapeLaws.{row-within}
 use Rattle.sheet.specs.OnePass.{goodFarm}
 use Rattle.sheet.proofs.one_pass.good_farms.Statement.{statement}
@@ -25,7 +26,7 @@ good-farm-requires c κs = let a = c .before .before .before .args in
     (omega (arith, row-within (a .m) (a .n) (c .before .loop .p) (c .loop-test .taken)), omega arith, omega arith)
 
 returns : tie.Need-returns Inv-loop μ-loop
-returns c = sym (all-stops _ _ (c .before .before .before .loop .p) (omega arith) (said-no (c .before .good-farm .ensures) (c .if1 .taken)))
+returns c = λ yes. clash yes refl
 
 add-p : tie.Need-add-p Inv-loop μ-loop
 add-p c = omega arith
@@ -34,11 +35,11 @@ loop-less : tie.Need-loop-less Inv-loop μ-loop
 loop-less c = omega arith
 
 loop-again : tie.Need-loop-again Inv-loop μ-loop
-loop-again c = (omega arith, all-more _ _ (c .before .before .before .loop .inv .1) (said-yes (c .before .good-farm .ensures) (c .if1 .left)))
+loop-again c = (omega arith, all-more _ _ (c .before .before .before .loop .inv .1) (c .before .good-farm .ensures (not-false _ (c .if1 .left))))
 
 returns-2 : tie.Need-returns-2 Inv-loop μ-loop
 returns-2 c = let e : c .before .loop .p ≡ c .before .before .before .args .n = omega arith in
-    rw e at (c .before .loop .inv .1)
+    λ yes. sym (rw e at (c .before .loop .inv .1))
 
 pub good-farms-spec : {M : Type 1} → statement M
 good-farms-spec =
