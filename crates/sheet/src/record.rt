@@ -75,10 +75,11 @@ impl Record {
         area[at + 1] = self.yard;
         area[at + 2] = self.farm;
         area[at + 3] = self.byte3;
-        area[at + 4] = (self.amount % 256) as u8;
-        area[at + 5] = (self.amount / 256 % 256) as u8;
-        area[at + 6] = (self.amount / 65536 % 256) as u8;
-        area[at + 7] = (self.amount / 16777216 % 256) as u8;
+        let amount = self.amount;
+        area[at + 4] = (amount % 256) as u8;
+        area[at + 5] = (amount / 256 % 256) as u8;
+        area[at + 6] = (amount / 65536 % 256) as u8;
+        area[at + 7] = (amount / 16777216 % 256) as u8;
     }
 
     // Question 2 of one record.

@@ -81,7 +81,7 @@ same-length c = simp length-set
 
 returns-3 : tie.Need-returns-3
 unfolding bytesOf splice
-returns-3 c = let s = c .before .before .before .before .before .before in
+returns-3 c = let s = c .before .before in
     let room : s .args .at + 8 ≤ length (now (s .args .area)) = omega arith in
     put8 (now (s .args .area)) (s .args .at) _ _ _ _ _ _ _ _ room ∙ sym (put-fits (now (s .args .area)) (s .args .at) (s .args .self) room)
 
