@@ -1,7 +1,7 @@
 -- Laws of the nearest open yard: what `closer` keeps, what a turn over the yards adds, and that a farm's stretch of the sheet
 -- gives the nearest yard of the instance.
-use Prim.Native.Nat.{ℕ, _+_, _-_, _*_, _/_, _%_, _^_, _≤_, _<_, min}
-use native.Mathlib.Nat.{le-of-lt, min-eq-left, min-eq-right}
+use Prim.Native.Nat.{ℕ, zero, suc, _+_, _-_, _*_, _/_, _%_, _^_, _≤_, _<_, min}
+use native.Mathlib.Nat.{le-of-lt, min-eq-left, min-eq-right, add-sub-cancel-left}
 use native.Mathlib.Numerals.{add-one}
 use native.Mathlib.Omega.{arith}
 use mathlib.Core.Path.{_≡_, refl, sym, ap, ap₂, _∙_}
@@ -26,6 +26,8 @@ use Rattle.sheet.specs.Sheet.{records, haul, instanceBy}
 use Rattle.sheet.specs.Shape.{Shape}
 use Rattle.sheet.specs.Reading.{stretch}
 use Rattle.sheet.proofs.RecordLaws.{whole}
+use Rattle.sheet.proofs.ShapeLaws.{row-within}
+use Rattle.sheet.proofs.StretchLaws.{stretch-is}
 use Rattle.sheet.proofs.FarmLaws.{stretch-length, stretch-record}
 use Rattle.price.specs.declared.nearest.Nearest.{Nearest}
 use Rattle.price.specs.Nearest.{near, nearestBelow, closer, amountAt, nearestOn}
@@ -160,6 +162,14 @@ part-amount bytes part i r room cut er =
 
 -- ---- the loop over the listed yards of a set on a stretch of the sheet
 
+-- the number after t of the yards: the highest before the first, then that of the nearest
+pub record Least (bytes yards : List ℕ) (set t k : ℕ) : Type 0 where
+  pub begins : t ≡ 0 → k ≡ 18446744073709551615
+  pub holds : 0 < t → Passed set (amountAt bytes) (passed yards t) k
+
+pub least-none : (bytes yards : List ℕ) (set : ℕ) → Least bytes yards set 0 18446744073709551615
+least-none bytes yards set = record { begins = λ e. refl; holds = λ some. absurd (omega arith) }
+
 module _ (bytes yards : List ℕ) (set : ℕ) (e : yards ≡ risingBelow (min (records bytes) 32) set) where
   next : (t : ℕ) → t < length yards → Next set (min (records bytes) 32) (passed yards t) (getD yards t 0)
   next = listed-next set (min (records bytes) 32) yards e
@@ -180,24 +190,44 @@ module _ (bytes yards : List ℕ) (set : ℕ) (e : yards ≡ risingBelow (min (r
       passed-nothing set (amountAt bytes) (min (records bytes) 32) (passed yards (length yards)) last
       (ap (passed yards) none ∙ passed-none yards) ∙ all small
 
-  pub first-listed : 0 < length yards → (r : ℕ) → r ≡ haulTo (amountAt bytes (getD yards 0 0)) (getD yards 0 0)
+  first-listed : 0 < length yards → (r : ℕ) → r ≡ haulTo (amountAt bytes (getD yards 0 0)) (getD yards 0 0)
       → Passed set (amountAt bytes) (passed yards 1) r
   first-listed some r er =
       rw (er, passed-more yards 0) (passed-first set (amountAt bytes) (min (records bytes) 32) (passed yards 0) (getD yards 0 0) (next 0 some) (passed-none yards))
 
-  pub next-listed : (t : ℕ) → t < length yards → (r k q : ℕ) → r ≡ haulTo (amountAt bytes (getD yards t 0)) (getD yards t 0)
+  next-listed : (t : ℕ) → t < length yards → (r k q : ℕ) → r ≡ haulTo (amountAt bytes (getD yards t 0)) (getD yards t 0)
       → q ≡ min r k → Passed set (amountAt bytes) (passed yards t) k → Passed set (amountAt bytes) (passed yards (t + 1)) q
   next-listed t l r k q er eq h =
       rw (eq, er, passed-more yards t) (passed-next set (amountAt bytes) (min (records bytes) 32) (passed yards t) (getD yards t 0) (next t l)
       (omega (arith, next t l .below)) k h)
 
-  pub all-listed : set < 2 ^ 32 → (t k : ℕ) → t ≡ length yards → Passed set (amountAt bytes) (passed yards t) k
+  pub more-listed : (t : ℕ) → t < length yards → (r k q : ℕ) → r < 2 ^ 64 → r ≡ haulTo (amountAt bytes (getD yards t 0)) (getD yards t 0)
+      → q ≡ min r k → Least bytes yards set t k → Least bytes yards set (t + 1) q
+  more-listed zero l r k q small er eq h =
+      let first : q ≡ r = omega (arith, h .begins refl) in
+      record { begins = λ e. absurd (omega arith); holds = λ some. rw first (first-listed l r er) }
+  more-listed (suc t) l r k q small er eq h =
+      record { begins = λ e. absurd (omega arith); holds = λ some. next-listed (suc t) l r k q er eq (h .holds (omega arith)) }
+
+  pub all-listed : set < 2 ^ 32 → 0 < length yards → (t k : ℕ) → t ≡ length yards → Least bytes yards set t k
       → near true (k % 4294967296) (k / 4294967296) ≡ nearestOn bytes set
-  all-listed small t k done h =
+  all-listed small some t k done h =
       passed-all set (amountAt bytes) (min (records bytes) 32) (passed yards (length yards)) last
-      (omega (arith, last .within)) k (rw done at h) ∙ all small
+      (omega (arith, last .within)) k (rw done at h .holds (omega arith)) ∙ all small
 
 -- ---- a farm's stretch
+
+-- the sheet reaches so far
+pub stretch-room : (s : List ℕ) (m n p : ℕ) → Shape s m n → p < n → (m ≤ 32) × (p < 128) × (8 * (m + p * m) + 8 * m ≤ length s)
+stretch-room s m n p f below =
+    (f .few-yards, omega (arith, f .few-farms), omega (arith, row-within m n p below, f .room))
+
+-- it is the part of the sheet from the farm's first haul to its last
+pub cut-stretch : (s part : List ℕ) (m p : ℕ) → m ≤ 32 → p < 128 → 8 * (m + p * m) + 8 * m ≤ length s
+    → part ≡ take (8 * (m + p * m) + 8 * m - 8 * (m + p * m)) (drop (8 * (m + p * m)) s) → part ≡ stretch s m p
+cut-stretch s part m p few below room cut =
+    cut ∙ ap (λ (k : ℕ). take k (drop (8 * (m + p * m)) s)) (add-sub-cancel-left (8 * (m + p * m)) (8 * m))
+    ∙ sym (stretch-is s m p few below room)
 
 pub nearest-values : (m : ℕ) (S : ℕ → Bool) (v w : ℕ → ℕ) → ((i : ℕ) → i < m → v i ≡ w i) → nearestBelow m S v ≡ nearestBelow m S w
 unfolding nearestBelow

@@ -10,6 +10,9 @@ use sheet::Record;
 // What the part of a number counts for that begins at bit 32.
 const BIT_32: u64 = 4294967296;
 
+// No haul and number in one is above this.
+const HIGHEST: u64 = 18446744073709551615;
+
 pub struct Nearest {
     pub found: bool,
     pub yard: usize,
@@ -38,8 +41,8 @@ pub(crate) fn nearest_of(hauls: &[u8], set: u32, yards: &[u8]) -> Nearest
             haul: 0,
         };
     }
-    let mut least = haul_to(hauls, yards[0]);
-    let mut t = 1;
+    let mut least = HIGHEST;
+    let mut t = 0;
     while t < yards.len() {
         least = lesser(haul_to(hauls, yards[t]), least);
         t += 1;

@@ -11,6 +11,7 @@ ghost use Rattle.sets.specs.Members.{risingBelow};
 ghost use Rattle.sheet.specs.Records.{recordOf, bytesOf, splice};
 ghost use Rattle.sheet.specs.Sheet.{fee, instanceBy};
 ghost use Rattle.sheet.specs.Shape.{Shape};
+ghost use Rattle.sheet.specs.Reading.{stretch};
 ghost use Rattle.price.specs.Plan.{openRecord, farmRecord, movesRecord, planFits, writing};
 ghost use Rattle.price.specs.Known.{farmRecordBy, writingBy};
 use crate::nearest::nearest_of;
@@ -167,6 +168,15 @@ fn put_opens(sheet: &[u8], m: usize, n: usize, set: u32, yards: &[u8], area: &mu
     total
 }
 
+// A farm's stretch of a sheet that reaches so far.
+fn stretch_of(sheet: &[u8], m: usize, farm: usize) -> &[u8]
+    requires { ⌜ (m ≤ 32) × (farm < 128) × (8 * (m + farm * m) + 8 * m ≤ length (now sheet)) ⌝ }
+    ensures { λ r. ⌜ now r ≡ stretch (now (sheet .entry)) m farm ⌝ }
+{
+    let from = Record::LEN * (m + farm * m);
+    &sheet[from..from + Record::LEN * m]
+}
+
 // Writes the record of a farm, and gives its haul.
 fn put_farm(
     sheet: &[u8],
@@ -182,7 +192,7 @@ fn put_farm(
     ensures haul { λ r. ⌜ r ≡ nearest (instanceBy (now (sheet .entry)) m n) (member set) farm ⌝ }
     ensures area { λ r. ⌜ now (area .exit) ≡ splice (now (area .entry)) at (farmRecord (instanceBy (now (sheet .entry)) m n) set farm) ⌝ }
 {
-    let near = nearest_of(sheet::farm_stretch(sheet, m, farm), set, yards);
+    let near = nearest_of(stretch_of(sheet, m, farm), set, yards);
     let record = Record::new(KIND_FARM, near.yard as u8, farm as u8, 0, near.haul);
     record.put(area, at);
     near.haul

@@ -3,14 +3,12 @@ use Prim.Native.Nat.{_≤_, _<_, _-_, _^_}
 use native.Mathlib.Omega.{arith}
 use borrow.Author.Needs.{needs}
 use lib.ListN.{length}
-use Rattle.sets.proofs.MemberLaws.{passed}
-use Rattle.price.specs.Nearest.{amountAt}
-use Rattle.price.proofs.NearestLaws.{Passed, yard-room, none-listed, first-listed, next-listed, all-listed}
+use Rattle.price.proofs.NearestLaws.{Least, least-none, yard-room, none-listed, more-listed, all-listed}
 use Rattle.price.proofs.nearest.nearest_of.Statement.{statement}
 use Rattle.price.proofs.nearest.nearest_of.Tie as tie
 
 abbrev Inv-loop : tie.InvT-loop
-Inv-loop hauls set yards least₀ t₀ least t = (1 ≤ t) × (t ≤ length yards) × (least < 2 ^ 64) × Passed set (amountAt hauls) (passed yards t) least
+Inv-loop hauls set yards least₀ t₀ least t = (t ≤ length yards) × (least < 2 ^ 64) × Least hauls yards set t least
 
 abbrev μ-loop : tie.MeasureT-loop
 μ-loop hauls set yards least₀ t₀ least t = length yards - t
@@ -19,22 +17,14 @@ returns : tie.Need-returns Inv-loop μ-loop
 returns c = let start = c .before .before .before in
     none-listed _ _ _ (start .pre) (search needs) (c .if1 .taken)
 
+loop-holds : tie.Need-loop-holds Inv-loop μ-loop
+loop-holds c = (omega arith, omega arith, least-none _ _ _)
+
 shared-slice-read-haul-to : tie.Need-shared-slice-read-haul-to Inv-loop μ-loop
-shared-slice-read-haul-to c = omega arith
+shared-slice-read-haul-to c = search needs
 
 haul-to-requires : tie.Need-haul-to-requires Inv-loop μ-loop
-haul-to-requires c κs = let start = c .before .before .before .before in
-    yard-room (start .args .hauls .now) (start .args .yards .now) (start .args .set) (start .pre) 0 (omega arith)
-
-loop-holds : tie.Need-loop-holds Inv-loop μ-loop
-loop-holds c = let start = c .before .before .before .before .before in
-    (omega arith, omega arith, search needs, first-listed _ _ _ (start .pre) (omega arith) _ (c .haul-to .ensures))
-
-shared-slice-read-haul-to-2 : tie.Need-shared-slice-read-haul-to-2 Inv-loop μ-loop
-shared-slice-read-haul-to-2 c = search needs
-
-haul-to-requires-2 : tie.Need-haul-to-requires-2 Inv-loop μ-loop
-haul-to-requires-2 c κs = let start = c .before .before .before .before .before .before .before .before in
+haul-to-requires c κs = let start = c .before .before .before .before .before .before in
     yard-room (start .args .hauls .now) (start .args .yards .now) (start .args .set) (start .pre) _ (c .before .loop-test .taken)
 
 lesser-requires : tie.Need-lesser-requires Inv-loop μ-loop
@@ -48,16 +38,16 @@ loop-less c = omega arith
 
 loop-again : tie.Need-loop-again Inv-loop μ-loop
 loop-again c = let turn = c .before .before .before in
-    let start = turn .before .before .before .before .before .before .before in
-    let more = next-listed _ _ _ (start .pre) _ (turn .loop-test .taken) _ _ _ (c .before .haul-to2 .ensures) (c .lesser .ensures) (turn .before .loop .inv .3) in
-    (omega arith, omega arith, search needs, more)
+    let start = turn .before .before .before .before .before in
+    let more = more-listed _ _ _ (start .pre) _ (turn .loop-test .taken) _ _ _ (search needs) (c .before .haul-to .ensures) (c .lesser .ensures) (turn .before .loop .inv .2) in
+    (omega arith, search needs, more)
 
-cast-t17 : tie.Need-cast-t17 Inv-loop μ-loop
-cast-t17 c = omega arith
+cast-t15 : tie.Need-cast-t15 Inv-loop μ-loop
+cast-t15 c = omega arith
 
 returns-2 : tie.Need-returns-2 Inv-loop μ-loop
-returns-2 c = let start = c .before .before .before .before .before .before .before in
-    all-listed _ _ _ (start .pre) (search needs) _ _ (omega arith) (c .before .loop .inv .3)
+returns-2 c = let start = c .before .before .before .before .before in
+    all-listed _ _ _ (start .pre) (search needs) (omega arith) _ _ (omega arith) (c .before .loop .inv .2)
 
 pub nearest-of-spec : {M : Type 1} → statement M
 nearest-of-spec =
@@ -66,14 +56,12 @@ nearest-of-spec =
     Inv-loop
     μ-loop
     returns
+    loop-holds
     shared-slice-read-haul-to
     haul-to-requires
-    loop-holds
-    shared-slice-read-haul-to-2
-    haul-to-requires-2
     lesser-requires
     add-t
     loop-less
     loop-again
-    cast-t17
+    cast-t15
     returns-2)
