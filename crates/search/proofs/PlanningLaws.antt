@@ -1,5 +1,5 @@
 -- The cases of the two plans: each refusal, and the plan that the search reaches.
-use Prim.Native.Nat.{ℕ, _≤_, _<_}
+use Prim.Native.Nat.{ℕ, _^_, _≤_, _<_}
 use native.Mathlib.Omega.{arith}
 use mathlib.Core.Path.{_≡_, refl, sym, ap, subst, _∙_}
 use mathlib.Core.Bool.{Bool, true, false, and-false}
@@ -7,7 +7,11 @@ use mathlib.Core.List.{List}
 use borrow.Author.Tests.{le-leb, lt-leb, leb-true}
 use lib.ListN.{length}
 use lib.Dec.{leb}
+use Rattle.model.specs.Sets.{member}
+use Rattle.model.specs.Search.{search}
+use Rattle.model.specs.Plans.{openCost, openSearch, limitedCost, limitedSearch}
 use Rattle.model.proofs.Bools.{and-left, and-right}
+use Rattle.model.proofs.SearchLaws.{search-ends}
 use Rattle.sheet.specs.Records.{splice}
 use Rattle.sheet.specs.Answers.{Answer, accepted, refused, ask, after}
 use Rattle.sheet.specs.Sheet.{instanceBy, instanceOf}
@@ -16,7 +20,8 @@ use Rattle.sheet.specs.Reading.{Counts, counts, reading, meaning as readingMean
 use Rattle.sheet.specs.OnePass.{formAndAmounts}
 use Rattle.sheet.specs.declared.Reading.{Reading}
 use Rattle.sheet.proofs.ReadingLaws.{same-result, apart}
-use Rattle.sheet.proofs.AcceptedLaws.{shape-of, instance-is, accepts, passes-five}
+use Rattle.sheet.proofs.AcceptedLaws.{shape-of, instance-is, accepts, passes-five, door}
+use Rattle.sheet.proofs.CostBounds.{total-fits, service-fits}
 use Rattle.price.specs.Plan.{question9}
 use Rattle.price.specs.Known.{Known, writingBy}
 use Rattle.price.specs.Pricing.{Plan, result, meaning, answer, areaAfter}
@@ -26,7 +31,7 @@ use Rattle.price.proofs.KnownLaws.{known-plan}
 use Rattle.search.specs.declared.descent.Settled.{Settled}
 use Rattle.search.specs.declared.moves.Neighbourhood.{Neighbourhood}
 use Rattle.search.specs.declared.moves.Neighbourhood.the-variants.{AddDropSwap, Swap}
-use Rattle.search.specs.Settling.{planOf}
+use Rattle.search.specs.Settling.{settledAt, openEnd, limitedEnd, planOf}
 use Rattle.search.specs.Planning.{openPlan, limitedPlan, question7, openPlanning, limitedPlanning}
 use Rattle.search.specs.Preparing.{endBy, ReadAs, planningAfter}
 use Rattle.search.specs.WithoutRule.{openPlanningWithoutRule, limitedPlanningWithoutRule}
@@ -51,6 +56,33 @@ writes-settled s m n r numbers area next bytes shape q known long put =
     let is = known-plan s m n (r .set) numbers known (r .cost) (r .moves) (length area)
     ∙ writes-of s m n (r .set) (r .cost) (r .moves) (length area) shape q in
     makes (accepted (planOf (instanceBy s m n) r)) area _ next bytes (r .moves) refl (long ∙ ap length is) refl (put ∙ ap (splice area 0) is)
+
+-- ---- how large they are
+
+-- cost and moves of what a search settled on are at most the start's cost, so they fit an amount
+module _ (cost : ℕ → ℕ) (neighbours : ℕ → List ℕ) (start : ℕ) (r : Settled) (e : r ≡ settledAt cost (search cost neighbours start)) where
+  small-by : cost start < 2 ^ 32 → (r .cost < 2 ^ 32) × (r .moves < 2 ^ 32)
+  unfolding settledAt
+  small-by small =
+      let end = search-ends cost neighbours start in
+      rw e (omega (arith, end .few-steps), omega (arith, end .few-steps))
+
+module _ (s : List ℕ) (m n : ℕ) (r : Settled) (e : reading s ≡ accepted (counts m n)) where
+  open-total : (set : ℕ) → openCost (instanceBy s m n) set < 2 ^ 32
+  unfolding openCost
+  open-total set = rw (instance-is (accepts s m n e .has)) (total-fits (instanceOf s) (door s m n e) (member set))
+
+  limited-total : (set : ℕ) → limitedCost (instanceBy s m n) set < 2 ^ 32
+  unfolding limitedCost
+  limited-total set = rw (instance-is (accepts s m n e .has)) (service-fits (instanceOf s) (door s m n e) (member set))
+
+  pub open-small : r ≡ openEnd (instanceBy s m n) → (r .cost < 2 ^ 32) × (r .moves < 2 ^ 32)
+  unfolding openEnd openSearch
+  open-small h = small-by _ _ _ r h (open-total _)
+
+  pub limited-small : (k : ℕ) → r ≡ limitedEnd (instanceBy s m n) k → (r .cost < 2 ^ 32) × (r .moves < 2 ^ 32)
+  unfolding limitedEnd limitedSearch
+  limited-small k h = small-by _ _ _ r h (limited-total _)
 
 -- ---- question 7
 

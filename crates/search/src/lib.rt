@@ -49,8 +49,8 @@ pub fn open_plan_without_rule(sheet: &[u8], area: &mut [u8]) -> Planned
     ensures answer { λ r. ⌜ meaning r ≡ answer (openPlanningWithoutRule (now (sheet .entry)) (length (now (area .entry)))) ⌝ }
     ensures area { λ r. ⌜ now (area .exit) ≡ areaAfter (openPlanningWithoutRule (now (sheet .entry)) (length (now (area .entry)))) (now (area .entry)) ⌝ }
 {
-    let reading = sheet::form_and_amounts_of(sheet);
-    plan_after(reading, Neighbourhood::AddDropSwap, sheet, 1, area)
+    let counted = sheet::form_and_amounts_of(sheet);
+    plan_after(counted, Neighbourhood::AddDropSwap, sheet, 1, area)
 }
 
 // The same of the limited plan for k yards.
@@ -58,6 +58,6 @@ pub fn limited_plan_without_rule(sheet: &[u8], k: usize, area: &mut [u8]) -> Pla
     ensures answer { λ r. ⌜ meaning r ≡ answer (limitedPlanningWithoutRule (now (sheet .entry)) k (length (now (area .entry)))) ⌝ }
     ensures area { λ r. ⌜ now (area .exit) ≡ areaAfter (limitedPlanningWithoutRule (now (sheet .entry)) k (length (now (area .entry)))) (now (area .entry)) ⌝ }
 {
-    let reading = sheet::form_and_amounts_of(sheet);
-    plan_after(reading, Neighbourhood::Swap, sheet, k, area)
+    let passed = sheet::form_and_amounts_of(sheet);
+    plan_after(passed, Neighbourhood::Swap, sheet, k, area)
 }

@@ -44,21 +44,6 @@ fn shift(service: &[u32], row: usize, plus: u32, minus: u32, kept: &mut [u32], a
     }
 }
 
-// A sum without what the cost is above another one, and with it.
-fn lowered(sum: u32, cost: u32, other: u32) -> u32
-    requires { ⌜ (cost ≤ 1000000) × (other ≤ 1000000) × (cost - other ≤ sum) ⌝ }
-    ensures { λ r. ⌜ r + (cost - other) ≡ sum ⌝ }
-{
-    sum - over(cost, other)
-}
-
-fn raised(sum: u32, cost: u32, other: u32) -> u32
-    requires { ⌜ (cost ≤ 1000000) × (other ≤ 1000000) × (sum + (cost - other) < 4294967296) ⌝ }
-    ensures { λ r. ⌜ r ≡ sum + (cost - other) ⌝ }
-{
-    sum + over(cost, other)
-}
-
 // Counts a client in: the service costs with each facility added come down to its nearest one, and the 32 sums of that facility take on what
 // the client pays more without it.
 fn shift_in(service: &[u32], row: usize, first: u32, second: u32, kept: &mut [u32], at: usize)
@@ -68,8 +53,9 @@ fn shift_in(service: &[u32], row: usize, first: u32, second: u32, kept: &mut [u3
     let mut i = 0;
     while i < 32 {
         let cost = service[row + i];
-        kept[ADDED + i] = lowered(kept[ADDED + i], cost, first);
-        kept[at + i] = moved(kept[at + i], cost, first, second);
+        let above = over(cost, first);
+        kept[ADDED + i] = kept[ADDED + i] - above;
+        kept[at + i] = kept[at + i] + above - over(cost, second);
         i += 1;
     }
 }
@@ -82,8 +68,9 @@ fn shift_out(service: &[u32], row: usize, first: u32, second: u32, kept: &mut [u
     let mut i = 0;
     while i < 32 {
         let cost = service[row + i];
-        kept[ADDED + i] = raised(kept[ADDED + i], cost, first);
-        kept[at + i] = moved(kept[at + i], cost, second, first);
+        let above = over(cost, first);
+        kept[ADDED + i] = kept[ADDED + i] + above;
+        kept[at + i] = kept[at + i] + over(cost, second) - above;
         i += 1;
     }
 }

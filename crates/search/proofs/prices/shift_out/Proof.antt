@@ -1,9 +1,8 @@
 -- `prices::shift_out` meets its contract. The invariant is that of `shift`, for each of the two stretches.
 use mathlib.Core.Path.{_≡_, refl}
-use Prim.Native.Nat.{_≤_, _-_}
-use native.Mathlib.Nat.{le-refl}
+use Prim.Native.Nat.{_+_, _≤_, _-_}
 use native.Mathlib.Omega.{arith}
-use lib.ListN.{length, length-set}
+use lib.ListN.{length, getD, length-set}
 use Rattle.search.specs.Shifting.{ShiftedBoth}
 use Rattle.search.proofs.ShiftingLaws.{both-none, rises-ready, more-ready, both-more}
 use Rattle.search.proofs.prices.shift_out.Statement.{statement}
@@ -28,21 +27,11 @@ mul-cost c = omega arith
 shared-slice-read-cost : tie.Need-shared-slice-read-cost Inv-loop μ-loop
 shared-slice-read-cost c = omega arith
 
-add-raised : tie.Need-add-raised Inv-loop μ-loop
-add-raised c = omega arith
-
-mul-raised : tie.Need-mul-raised Inv-loop μ-loop
-mul-raised c = omega arith
-
-slice-read-raised : tie.Need-slice-read-raised Inv-loop μ-loop
-slice-read-raised c = omega arith
-
-raised-requires : tie.Need-raised-requires Inv-loop μ-loop
-raised-requires c κs = let s = c .before .before .before .before .before .before in
-    let l = c .before .before .before .loop in
+over-requires : tie.Need-over-requires Inv-loop μ-loop
+over-requires c κs = let s = c .before .before .before .before .before in
+    let l = c .before .before .loop in
     let a = s .args in
-    rises-ready (a .service .now) (a .row) (a .first) 1000000 (a .second) (a .first) (a .kept .now) (a .at) (s .pre .2) (l .i) (omega arith) (l .kept)
-    (l .inv .2) (s .pre .0)
+    (s .pre .0 .costs (l .i) (omega arith), s .pre .0 .plus-cost)
 
 add-kept : tie.Need-add-kept Inv-loop μ-loop
 add-kept c = omega arith
@@ -50,30 +39,72 @@ add-kept c = omega arith
 mul-kept : tie.Need-mul-kept Inv-loop μ-loop
 mul-kept c = omega arith
 
-slice-write-kept : tie.Need-slice-write-kept Inv-loop μ-loop
-slice-write-kept c = omega arith
-
-add-moved : tie.Need-add-moved Inv-loop μ-loop
-add-moved c = omega arith
-
-mul-moved : tie.Need-mul-moved Inv-loop μ-loop
-mul-moved c = omega arith
-
-slice-read-moved : tie.Need-slice-read-moved Inv-loop μ-loop
-slice-read-moved c = simp length-set (omega arith)
-
-moved-requires : tie.Need-moved-requires Inv-loop μ-loop
-moved-requires c κs = let s = c .before .before .before .before .before .before .before .before in
-    let l = c .before .before .before .before .before .loop in
-    let a = s .args in
-    more-ready (a .service .now) (a .row) (a .first) 1000000 (a .second) (a .first) (a .kept .now) (a .at) (s .pre .2) (l .i) (omega arith) (l .kept)
-    (l .inv .2) _ (s .pre .1)
+slice-read-kept : tie.Need-slice-read-kept Inv-loop μ-loop
+slice-read-kept c = omega arith
 
 add-kept-2 : tie.Need-add-kept-2 Inv-loop μ-loop
-add-kept-2 c = omega arith
+add-kept-2 c = let s = c .before .before .before .before .before .before .before in
+    let l = c .before .before .before .before .loop in
+    let a = s .args in
+    omega (
+      arith,
+      rises-ready (a .service .now) (a .row) (a .first) 1000000 (a .second) (a .first) (a .kept .now) (a .at) (s .pre .2) (l .i) (omega arith) (l .kept)
+          (l .inv .2) (s .pre .0) .2,
+      c .before .over .ensures,
+    )
+
+add-kept-3 : tie.Need-add-kept-3 Inv-loop μ-loop
+add-kept-3 c = omega arith
 
 mul-kept-2 : tie.Need-mul-kept-2 Inv-loop μ-loop
 mul-kept-2 c = omega arith
+
+slice-write-kept : tie.Need-slice-write-kept Inv-loop μ-loop
+slice-write-kept c = omega arith
+
+add-kept-4 : tie.Need-add-kept-4 Inv-loop μ-loop
+add-kept-4 c = omega arith
+
+mul-kept-3 : tie.Need-mul-kept-3 Inv-loop μ-loop
+mul-kept-3 c = omega arith
+
+slice-read-kept-2 : tie.Need-slice-read-kept-2 Inv-loop μ-loop
+slice-read-kept-2 c = simp length-set (omega arith)
+
+over-requires-2 : tie.Need-over-requires-2 Inv-loop μ-loop
+over-requires-2 c κs = let s = c .before .before .before .before .before .before .before .before in
+    let l = c .before .before .before .before .before .loop in
+    let a = s .args in
+    (s .pre .0 .costs (l .i) (omega arith), s .pre .1 .plus-cost)
+
+add-kept-5 : tie.Need-add-kept-5 Inv-loop μ-loop
+add-kept-5 c = let s = c .before .before .before .before .before .before .before .before .before in
+    let l = c .before .before .before .before .before .before .loop in
+    let a = s .args in
+    omega (
+      arith,
+      more-ready (a .service .now) (a .row) (a .first) 1000000 (a .second) (a .first) (a .kept .now) (a .at) (s .pre .2) (l .i) (omega arith) (l .kept)
+          (l .inv .2) (getD (l .kept) (256 + l .i) 0 + c .before .before .before .over .result) (s .pre .1) .4,
+      c .over2 .ensures,
+    )
+
+sub-kept : tie.Need-sub-kept Inv-loop μ-loop
+sub-kept c = let s = c .before .before .before .before .before .before .before .before .before in
+    let l = c .before .before .before .before .before .before .loop in
+    let a = s .args in
+    omega (
+      arith,
+      more-ready (a .service .now) (a .row) (a .first) 1000000 (a .second) (a .first) (a .kept .now) (a .at) (s .pre .2) (l .i) (omega arith) (l .kept)
+          (l .inv .2) (getD (l .kept) (256 + l .i) 0 + c .before .before .before .over .result) (s .pre .1) .3,
+      c .before .before .before .over .ensures,
+      c .over2 .ensures,
+    )
+
+add-kept-6 : tie.Need-add-kept-6 Inv-loop μ-loop
+add-kept-6 c = omega arith
+
+mul-kept-4 : tie.Need-mul-kept-4 Inv-loop μ-loop
+mul-kept-4 c = omega arith
 
 slice-write-kept-2 : tie.Need-slice-write-kept-2 Inv-loop μ-loop
 slice-write-kept-2 c = simp length-set (omega arith)
@@ -86,12 +117,18 @@ loop-less c = omega arith
 
 loop-again : tie.Need-loop-again Inv-loop μ-loop
 loop-again c = let s = c .before .before .before .before .before .before .before .before .before in
+    let l = c .before .before .before .before .before .before .loop in
     let a = s .args in
-    let l = c .before .before .before .before .before .before .loop in (
+    let cost = s .pre .0 .costs (l .i) (omega arith) in
+    let one = c .before .before .before .over .ensures in
+    let low = rises-ready (a .service .now) (a .row) (a .first) 1000000 (a .second) (a .first) (a .kept .now) (a .at) (s .pre .2) (l .i) (omega arith) (l .kept)
+    (l .inv .2) (s .pre .0) .2 in
+    let enough = more-ready (a .service .now) (a .row) (a .first) 1000000 (a .second) (a .first) (a .kept .now) (a .at) (s .pre .2) (l .i) (omega arith) (l .kept)
+    (l .inv .2) (getD (l .kept) (256 + l .i) 0 + c .before .before .before .over .result) (s .pre .1) .3 in (
       omega arith,
       simp length-set (l .inv .1),
       both-more (a .service .now) (a .row) (a .first) 1000000 (a .second) (a .first) (a .kept .now) (a .at) (s .pre .2) (l .i) (omega arith) (l .kept)
-          (l .inv .2) _ _ (omega arith) (omega (arith, s .pre .0 .costs (l .i) (omega arith), c .before .before .raised .ensures)) (c .moved .ensures),
+          (l .inv .2) _ _ (omega arith) (omega (arith, cost, one, low)) (omega (arith, one, c .over2 .ensures, enough)),
     )
 
 same-length : tie.Need-same-length Inv-loop μ-loop
@@ -110,19 +147,22 @@ shift-out-spec =
     add-cost
     mul-cost
     shared-slice-read-cost
-    add-raised
-    mul-raised
-    slice-read-raised
-    raised-requires
+    over-requires
     add-kept
     mul-kept
-    slice-write-kept
-    add-moved
-    mul-moved
-    slice-read-moved
-    moved-requires
+    slice-read-kept
     add-kept-2
+    add-kept-3
     mul-kept-2
+    slice-write-kept
+    add-kept-4
+    mul-kept-3
+    slice-read-kept-2
+    over-requires-2
+    add-kept-5
+    sub-kept
+    add-kept-6
+    mul-kept-4
     slice-write-kept-2
     add-i
     loop-less
