@@ -11,6 +11,10 @@ use Rattle.sheet.specs.declared.record.Record.{Record}
 abbrev pub word : ℕ → ℕ → ℕ → ℕ → ℕ
 word a b c d = a + 256 * b + 65536 * c + 16777216 * d
 
+-- a number in four bytes, lowest first
+unfoldable pub wordBytes : ℕ → List ℕ
+wordBytes n = n % 256 ∷ n / 256 % 256 ∷ n / 65536 % 256 ∷ n / 16777216 % 256 ∷ []
+
 abbrev pub recordOf : ℕ → ℕ → ℕ → ℕ → ℕ → Record
 recordOf kind yard farm byte3 amount = record { kind = kind; yard = yard; farm = farm; byte3 = byte3; amount = amount }
 

@@ -2,7 +2,7 @@
 ghost use mathlib.Core.Path.{_≡_};
 ghost use Prim.Native.Nat.{_+_, _*_, _≤_};
 ghost use lib.ListN.{length};
-ghost use Rattle.sheet.specs.Records.{word, recordOf, recordAt, wholeRecordAt, putAt, wellFormed};
+ghost use Rattle.sheet.specs.Records.{word, wordBytes, recordOf, recordAt, wholeRecordAt, splice, putAt, wellFormed};
 ghost use Rattle.sheet.specs.OnePass.{recordIs, NumberIs};
 
 pub const KIND_YARD: u8 = 0x59;
@@ -75,11 +75,7 @@ impl Record {
         area[at + 1] = self.yard;
         area[at + 2] = self.farm;
         area[at + 3] = self.byte3;
-        let amount = self.amount;
-        area[at + 4] = (amount % 256) as u8;
-        area[at + 5] = (amount / 256 % 256) as u8;
-        area[at + 6] = (amount / 65536 % 256) as u8;
-        area[at + 7] = (amount / 16777216 % 256) as u8;
+        put_word(area, at + 4, self.amount);
     }
 
     // Question 2 of one record.
@@ -116,4 +112,15 @@ fn word32(a: u8, b: u8, c: u8, d: u8) -> u32
     ensures { λ r. ⌜ r ≡ word a b c d ⌝ }
 {
     (a as u32) + 256 * (b as u32) + 65536 * (c as u32) + 16777216 * (d as u32)
+}
+
+// Writes a number in four bytes, lowest first.
+fn put_word(area: &mut [u8], at: usize, value: u32)
+    requires { ⌜ at + 4 ≤ length (now area) ⌝ }
+    ensures { λ _. ⌜ now (area .exit) ≡ splice (now (area .entry)) at (wordBytes value) ⌝ }
+{
+    area[at] = (value % 256) as u8;
+    area[at + 1] = (value / 256 % 256) as u8;
+    area[at + 2] = (value / 65536 % 256) as u8;
+    area[at + 3] = (value / 16777216 % 256) as u8;
 }

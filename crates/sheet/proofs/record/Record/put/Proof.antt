@@ -1,11 +1,9 @@
--- `Record::put` meets its contract: a record that does not fit changes nothing, else eight stores in a row, by `put8`.
-use Prim.Native.Nat.{_+_, _≤_}
+-- `Record::put` meets its contract: a record that does not fit changes nothing, else four stores and the amount, by `put-record`.
 use mathlib.Core.Path.{sym, _∙_}
-use Rattle.sheet.specs.Records.{bytesOf, splice}
-use Rattle.sheet.proofs.RecordLaws.{put-fits, put-not, put8}
 use denote.Ref.{now}
 use native.Mathlib.Omega.{arith}
-use lib.ListN.{length, length-set}
+use lib.ListN.{length-set}
+use Rattle.sheet.proofs.RecordLaws.{put-not, put-record}
 use borrow.Author.Needs.{needs}
 use Rattle.sheet.proofs.record.Record.put.Statement.{statement}
 use Rattle.sheet.proofs.record.Record.put.Tie as tie
@@ -40,50 +38,18 @@ add-area-3 c = search needs
 slice-write-area-4 : tie.Need-slice-write-area-4
 slice-write-area-4 c = simp length-set (omega arith)
 
-cast-area : tie.Need-cast-area
-cast-area c = search needs
+add-put-word : tie.Need-add-put-word
+add-put-word c = search needs
 
-add-area-4 : tie.Need-add-area-4
-add-area-4 c = search needs
-
-slice-write-area-5 : tie.Need-slice-write-area-5
-slice-write-area-5 c = simp length-set (omega arith)
-
-cast-area-2 : tie.Need-cast-area-2
-cast-area-2 c = search needs
-
-add-area-5 : tie.Need-add-area-5
-add-area-5 c = search needs
-
-slice-write-area-6 : tie.Need-slice-write-area-6
-slice-write-area-6 c = simp length-set (omega arith)
-
-cast-area-3 : tie.Need-cast-area-3
-cast-area-3 c = search needs
-
-add-area-6 : tie.Need-add-area-6
-add-area-6 c = search needs
-
-slice-write-area-7 : tie.Need-slice-write-area-7
-slice-write-area-7 c = simp length-set (omega arith)
-
-cast-area-4 : tie.Need-cast-area-4
-cast-area-4 c = search needs
-
-add-area-7 : tie.Need-add-area-7
-add-area-7 c = search needs
-
-slice-write-area-8 : tie.Need-slice-write-area-8
-slice-write-area-8 c = simp length-set (omega arith)
+put-word-requires : tie.Need-put-word-requires
+put-word-requires c κs = simp length-set (omega arith)
 
 same-length : tie.Need-same-length
-same-length c = simp length-set
+same-length c = c .before .area .given ∙ simp length-set
 
 returns-3 : tie.Need-returns-3
-unfolding bytesOf splice
-returns-3 c = let s = c .before .before in
-    let room : s .args .at + 8 ≤ length (now (s .args .area)) = omega arith in
-    put8 (now (s .args .area)) (s .args .at) _ _ _ _ _ _ _ _ room ∙ sym (put-fits (now (s .args .area)) (s .args .at) (s .args .self) room)
+returns-3 c = let s = c .before .before .before .before .before .before .before in
+    c .before .before .put-word .ensures ∙ put-record (now (s .args .area)) (s .args .at) (s .args .self) (omega arith)
 
 pub put-spec : {M : Type 1} → statement M
 put-spec =
@@ -99,17 +65,7 @@ put-spec =
     slice-write-area-3
     add-area-3
     slice-write-area-4
-    cast-area
-    add-area-4
-    slice-write-area-5
-    cast-area-2
-    add-area-5
-    slice-write-area-6
-    cast-area-3
-    add-area-6
-    slice-write-area-7
-    cast-area-4
-    add-area-7
-    slice-write-area-8
+    add-put-word
+    put-word-requires
     same-length
     returns-3)
