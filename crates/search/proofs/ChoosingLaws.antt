@@ -81,12 +81,11 @@ module _ (m n : ℕ) (opening service : List ℕ) (b : Priced) (kept : List ℕ)
     cost-is : b .cost ≡ tableCost m n opening service (b .set)
     cost-is = cost-of (tableCost m n opening service) b (b .set) right
 
-    swap-row : (t : ℕ) → t < places → SwapRow opening m costs kept (getD list t 0)
+    swap-row : (t : ℕ) → t < places → SwapRow m costs kept (getD list t 0) (getD opening (getD list t 0) 0)
     swap-row t l =
         record {
           few = few;
           below = omega (arith, few, facility t l);
-          opening-room = fees .room;
           small = fees .small (getD list t 0) (facility t l);
           row = record {
             more-room = omega (arith, few, facility t l, here .sums .room);
@@ -108,7 +107,7 @@ module _ (m n : ℕ) (opening service : List ℕ) (b : Priced) (kept : List ℕ)
       omega (arith, here .sums .room),
       omega (arith, cost-is, given .cost-small),
       omega (arith, few),
-      record { list-room = list-room (b .set) m list places listed few (here .below); rows = swap-row },
+      record { opening-room = fees .room; list-room = list-room (b .set) m list places listed few (here .below); rows = swap-row },
     )
 
     -- what is taken is the set that the model goes to

@@ -28,7 +28,7 @@ use Rattle.search.specs.Prices.{MovePrices}
 use Rattle.search.specs.Adding.{Added}
 use Rattle.search.specs.Standing.{Listed}
 use Rattle.search.specs.Choosing.{cheaper, Row, lowerAt}
-use Rattle.search.specs.Taking.{atPlace, tryAdd, addAtCost, bestAdd, tryDrop, bestDrop, trySwap, swapAtCost, bestSwapOut, bestSwap, bestMove, Leased, listedFees, SwapRow, SwapRows}
+use Rattle.search.specs.Taking.{atPlace, tryAdd, addAtCost, bestAdd, tryDrop, bestDrop, trySwap, swapAtCost, bestSwapOut, swapOut, bestSwap, bestMove, Leased, listedFees, SwapRow, SwapRows}
 use Rattle.search.specs.Settling.{priced, neighboursBy}
 use Rattle.search.specs.declared.moves.Priced.{Priced}
 use Rattle.search.specs.declared.moves.Neighbourhood.{Neighbourhood}
@@ -60,16 +60,16 @@ drop-falls opening set cost kept list places top b low =
     (λ e. rw e (through-holds (λ x. x .cost ≤ top) (atPlace list (tryDrop opening set cost kept)) b places
     (λ t l x h. cheaper-falls _ _ top x h) low))
 
-swap-falls : (opening : List ℕ) (m set : ℕ) (costs kept : List ℕ) (o top : ℕ) (b : Priced) → b .cost ≤ top
-    → bestSwapOut opening m set costs kept o b .cost ≤ top
+swap-falls : (m set : ℕ) (costs kept : List ℕ) (o saved top : ℕ) (b : Priced) → b .cost ≤ top
+    → bestSwapOut m set costs kept o saved b .cost ≤ top
 unfolding bestSwapOut swapAtCost trySwap
-swap-falls opening m set costs kept o top b low =
-    through-holds (λ x. x .cost ≤ top) (swapAtCost opening set costs kept o) b m
+swap-falls m set costs kept o saved top b low =
+    through-holds (λ x. x .cost ≤ top) (swapAtCost set costs kept o saved) b m
     (λ i l x h. cases (member set i) (λ e. rw e h) (λ e. rw e (cheaper-falls _ _ top x h))) low
 
-pub out-falls : (opening : List ℕ) (m set : ℕ) (costs kept : List ℕ) (o top : ℕ) (b r : Priced) → b .cost ≤ top
-    → r ≡ bestSwapOut opening m set costs kept o b → r .cost ≤ top
-out-falls opening m set costs kept o top b r low e = rw e (swap-falls opening m set costs kept o top b low)
+pub out-falls : (m set : ℕ) (costs kept : List ℕ) (o saved top : ℕ) (b r : Priced) → b .cost ≤ top
+    → r ≡ bestSwapOut m set costs kept o saved b → r .cost ≤ top
+out-falls m set costs kept o saved top b r low e = rw e (swap-falls m set costs kept o saved top b low)
 
 pub both-fall : (opening : List ℕ) (m set cost : ℕ) (costs kept list : List ℕ) (places : ℕ) (b added dropped : Priced)
     → b .cost ≤ 2000000000 → added ≡ bestAdd m set costs b → dropped ≡ bestDrop opening set cost kept list places added
@@ -92,13 +92,12 @@ swap-stays : (set o i k : ℕ) (b : Priced) → b .cost ≤ k → trySwap set o 
 unfolding trySwap cheaper
 swap-stays set o i k b h = cases (member set i) (λ e. rw e) (λ e. rw (e, le-ltb k (b .cost) h))
 
-pub row-stays : (opening : List ℕ) (m set : ℕ) (costs kept : List ℕ) (o bound : ℕ) (b : Priced) → m ≤ 32
-    → bound ≡ b .cost + getD opening o 0 → count 32 (lowerAt kept (320 + 32 * o) costs bound) ≡ 0
-    → b ≡ bestSwapOut opening m set costs kept o b
+pub row-stays : (m set : ℕ) (costs kept : List ℕ) (o saved : ℕ) (b : Priced) → m ≤ 32
+    → count 32 (lowerAt kept (320 + 32 * o) costs (b .cost + saved)) ≡ 0 → b ≡ bestSwapOut m set costs kept o saved b
 unfolding bestSwapOut swapAtCost
-row-stays opening m set costs kept o bound b few bound-is none =
-    sym (through-keeps (swapAtCost opening set costs kept o) b m
-    (λ i l. swap-stays set o i _ b (let h = none-lower kept (320 + 32 * o) costs bound i none (omega arith) in omega arith)))
+row-stays m set costs kept o saved b few none =
+    sym (through-keeps (swapAtCost set costs kept o saved) b m
+    (λ i l. swap-stays set o i _ b (let h = none-lower kept (320 + 32 * o) costs (b .cost + saved) i none (omega arith) in omega arith)))
 
 -- ---- one move, as the code tests it: the price first
 
@@ -147,19 +146,20 @@ drops-more opening set cost kept list start b r t x e removed h =
     through-turn (atPlace list (tryDrop opening set cost kept)) start b r t e
     (h ∙ ap (λ (y : ℕ). cheaper y (cost + getD kept (288 + getD list t 0) 0 - getD opening (getD list t 0) 0) b) removed)
 
-pub row-more : (opening : List ℕ) (set : ℕ) (costs kept : List ℕ) (o : ℕ) (start b r : Priced) (i : ℕ)
-    → b ≡ through i (swapAtCost opening set costs kept o) start
-    → r ≡ trySwap set o i (getD kept (320 + 32 * o + i) 0 + getD costs i 0 - getD opening o 0) b
-    → r ≡ through (i + 1) (swapAtCost opening set costs kept o) start
+pub row-more : (set : ℕ) (costs kept : List ℕ) (o saved : ℕ) (start b r : Priced) (i : ℕ)
+    → b ≡ through i (swapAtCost set costs kept o saved) start
+    → r ≡ trySwap set o i (getD kept (320 + 32 * o + i) 0 + getD costs i 0 - saved) b
+    → r ≡ through (i + 1) (swapAtCost set costs kept o saved) start
 unfolding swapAtCost
-row-more opening set costs kept o start b r i e h = through-turn (swapAtCost opening set costs kept o) start b r i e h
+row-more set costs kept o saved start b r i e h = through-turn (swapAtCost set costs kept o saved) start b r i e h
 
 pub rows-more : (opening : List ℕ) (m set : ℕ) (costs kept list : List ℕ) (start b r : Priced) (t : ℕ)
-    → b ≡ through t (atPlace list (bestSwapOut opening m set costs kept)) start
-    → r ≡ bestSwapOut opening m set costs kept (getD list t 0) b
-    → r ≡ through (t + 1) (atPlace list (bestSwapOut opening m set costs kept)) start
+    → b ≡ through t (atPlace list (swapOut opening m set costs kept)) start
+    → r ≡ bestSwapOut m set costs kept (getD list t 0) (getD opening (getD list t 0) 0) b
+    → r ≡ through (t + 1) (atPlace list (swapOut opening m set costs kept)) start
+unfolding swapOut
 rows-more opening m set costs kept list start b r t e h =
-    through-turn (atPlace list (bestSwapOut opening m set costs kept)) start b r t e h
+    through-turn (atPlace list (swapOut opening m set costs kept)) start b r t e h
 
 -- the loops in a row, for each kind of moves
 
@@ -239,7 +239,7 @@ module _ (m n : ℕ) (opening service : List ℕ) (set : ℕ) (costs kept : List
       ]
 
   swap-is : (o : ℕ) → o < m → member set o ≡ true → (i : ℕ) → i < m → (x : Priced) → Right x
-      → swapAtCost opening set costs kept o i x ≡ priced cost (best cost (x .set) (swapAt set o i))
+      → swapAtCost set costs kept o (getD opening o 0) i x ≡ priced cost (best cost (x .set) (swapAt set o i))
   unfolding swapAtCost trySwap swapAt best
   swap-is o lo is-open i l x right =
       cases (member set i)
@@ -248,19 +248,19 @@ module _ (m n : ℕ) (opening service : List ℕ) (set : ℕ) (costs kept : List
       (cheaper-is-better cost (with (without set o) i) x _ right (omega (arith, given .swap o i lo is-open l e))))
 
   swaps-out-are : (o : ℕ) → o < m → (x : Priced) → Right x
-      → inSet set (bestSwapOut opening m set costs kept) o x ≡ priced cost (best cost (x .set) (swapsOut m set o))
-  unfolding bestSwapOut swapsOut best
+      → inSet set (swapOut opening m set costs kept) o x ≡ priced cost (best cost (x .set) (swapsOut m set o))
+  unfolding swapOut bestSwapOut swapsOut best
   swaps-out-are o l x right =
       cases (member set o)
-      (λ e. rw e (through-best cost (swapAtCost opening set costs kept o) (swapAt set o) x right m (swap-is o l e)))
+      (λ e. rw e (through-best cost (swapAtCost set costs kept o (getD opening o 0)) (swapAt set o) x right m (swap-is o l e)))
       (λ e. rw e right)
 
   swaps-are : (x : Priced) → Right x
       → bestSwap opening m set costs kept list places x ≡ priced cost (best cost (x .set) (swaps m set))
   unfolding bestSwap swaps
   swaps-are x right =
-      through-listed set m list places listed few narrow (bestSwapOut opening m set costs kept) x
-      ∙ through-best cost (inSet set (bestSwapOut opening m set costs kept)) (swapsOut m set) x right m swaps-out-are
+      through-listed set m list places listed few narrow (swapOut opening m set costs kept) x
+      ∙ through-best cost (inSet set (swapOut opening m set costs kept)) (swapsOut m set) x right m swaps-out-are
 
 -- all moves of a kind
 module _ (m n : ℕ) (opening service : List ℕ) (b : Priced) (costs kept : List ℕ)

@@ -48,17 +48,20 @@ bestDrop opening set cost kept list count start =
 unfoldable pub trySwap : ℕ → ℕ → ℕ → ℕ → Priced → Priced
 trySwap set o i cost b = cond (member set i) b (cheaper (with32 (without set o) i) cost b)
 
--- at the add's cost, what the clients of o pay more, and what is saved of opening costs
-unfoldable pub swapAtCost : List ℕ → ℕ → List ℕ → List ℕ → ℕ → ℕ → Priced → Priced
-swapAtCost opening set costs kept o i b =
-    trySwap set o i (getD kept (320 + 32 * o + i) 0 + getD costs i 0 - getD opening o 0) b
+-- at the add's cost and what the clients of o pay more, less what is saved of opening costs
+unfoldable pub swapAtCost : ℕ → List ℕ → List ℕ → ℕ → ℕ → ℕ → Priced → Priced
+swapAtCost set costs kept o saved i b = trySwap set o i (getD kept (320 + 32 * o + i) 0 + getD costs i 0 - saved) b
 
-unfoldable pub bestSwapOut : List ℕ → ℕ → ℕ → List ℕ → List ℕ → ℕ → Priced → Priced
-bestSwapOut opening m set costs kept o start = through m (swapAtCost opening set costs kept o) start
+unfoldable pub bestSwapOut : ℕ → ℕ → List ℕ → List ℕ → ℕ → ℕ → Priced → Priced
+bestSwapOut m set costs kept o saved start = through m (swapAtCost set costs kept o saved) start
+
+-- what is saved is the opening cost of o
+unfoldable pub swapOut : List ℕ → ℕ → ℕ → List ℕ → List ℕ → ℕ → Priced → Priced
+swapOut opening m set costs kept o b = bestSwapOut m set costs kept o (getD opening o 0) b
 
 -- every swap of a listed facility
 unfoldable pub bestSwap : List ℕ → ℕ → ℕ → List ℕ → List ℕ → List ℕ → ℕ → Priced → Priced
-bestSwap opening m set costs kept list count start = through count (atPlace list (bestSwapOut opening m set costs kept)) start
+bestSwap opening m set costs kept list count start = through count (atPlace list (swapOut opening m set costs kept)) start
 
 -- ---- the moves of each kind
 
@@ -82,16 +85,16 @@ pub record Leased (opening list : List ℕ) (count most : ℕ) : Type 0 where
 unfoldable pub listedFees : List ℕ → List ℕ → ℕ → ℕ
 listedFees opening list count = sum count (λ t. getD opening (getD list t 0) 0)
 
--- the row of swaps that o goes out by: every price is at least what is saved of opening costs
-pub record SwapRow (opening : List ℕ) (m : ℕ) (costs kept : List ℕ) (o : ℕ) : Type 0 where
+-- the row of swaps that o goes out by: every price is at least what is saved
+pub record SwapRow (m : ℕ) (costs kept : List ℕ) (o saved : ℕ) : Type 0 where
   pub few : m ≤ 32
   pub below : o < 32
-  pub opening-room : 32 ≤ length opening
-  pub small : getD opening o 0 ≤ 50000000
+  pub small : saved ≤ 50000000
   pub row : Row kept (320 + 32 * o) costs
-  pub enough : (i : ℕ) → i < 32 → getD opening o 0 ≤ getD costs i 0
+  pub enough : (i : ℕ) → i < 32 → saved ≤ getD costs i 0
 
 -- the rows of all listed facilities
 pub record SwapRows (opening : List ℕ) (m : ℕ) (costs kept list : List ℕ) (count : ℕ) : Type 0 where
+  pub opening-room : 32 ≤ length opening
   pub list-room : count ≤ length list
-  pub rows : (t : ℕ) → t < count → SwapRow opening m costs kept (getD list t 0)
+  pub rows : (t : ℕ) → t < count → SwapRow m costs kept (getD list t 0) (getD opening (getD list t 0) 0)

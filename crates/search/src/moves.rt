@@ -130,28 +130,27 @@ fn lower_count(more: &[u32], at: usize, costs: &[u32], bound: u32) -> u32
     total
 }
 
-// Every swap that closes yard o. Most rows have no price below the best so far: those are passed over.
+// Every swap that closes yard o, which saves its opening cost. Most rows have no price below the best so far: those are passed over.
 fn best_swap_out(
-    opening: &[u32],
     m: usize,
     set: u32,
     o: usize,
+    saved: u32,
     start: Priced,
     costs: &[u32],
     kept: &[u32],
 ) -> Priced
-    requires { ⌜ SwapRow (now opening) m (now costs) (now kept) o × (start .cost ≤ 2000000000) ⌝ }
-    ensures { λ r. ⌜ r ≡ bestSwapOut (now (opening .entry)) m set (now (costs .entry)) (now (kept .entry)) o start ⌝ }
+    requires { ⌜ SwapRow m (now costs) (now kept) o saved × (start .cost ≤ 2000000000) ⌝ }
+    ensures { λ r. ⌜ r ≡ bestSwapOut m set (now (costs .entry)) (now (kept .entry)) o saved start ⌝ }
 {
-    let bound = (start.cost + opening[o] as u64) as u32;
-    if lower_count(kept, MORE + 32 * o, costs, bound) == 0 {
+    let row = MORE + 32 * o;
+    if lower_count(kept, row, costs, start.cost as u32 + saved) == 0 {
         return start;
     }
-    let saved = opening[o];
     let mut b = start;
     let mut i = 0;
     while i < m {
-        let price = kept[MORE + 32 * o + i] + costs[i] - saved;
+        let price = kept[row + i] + costs[i] - saved;
         b = try_swap(set, o, i, price as u64, b);
         i += 1;
     }
@@ -174,7 +173,8 @@ fn best_swap(
     let mut b = start;
     let mut t = 0;
     while t < count {
-        b = best_swap_out(opening, m, set, list[t] as usize, b, costs, kept);
+        let o = list[t] as usize;
+        b = best_swap_out(m, set, o, opening[o], b, costs, kept);
         t += 1;
     }
     b
