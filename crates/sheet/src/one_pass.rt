@@ -19,7 +19,7 @@ use crate::record::Record;
 // A power of two above every haul within bounds, as the amount of a record's number.
 const ABOVE_HAULS: u64 = 1048576 * Record::AMOUNT;
 
-// What takes the least haul that is too high to it.
+// What the least haul above the bound lacks to it.
 const RAISE: u64 = ABOVE_HAULS - (amounts::MOST_HAUL as u64 + 1) * Record::AMOUNT;
 
 // What the one pass answers: the counts of a sheet that passes questions 1 to 5, or that it finds some fault.
