@@ -28,13 +28,29 @@ use Rattle.search.specs.Prices.{MovePrices}
 use Rattle.search.specs.Adding.{Added}
 use Rattle.search.specs.Standing.{Listed}
 use Rattle.search.specs.Choosing.{cheaper, Row, lowerAt}
-use Rattle.search.specs.Taking.{atPlace, tryAdd, addAtCost, bestAdd, tryDrop, bestDrop, trySwap, swapAtCost, bestSwapOut, swapOut, bestSwap, bestMove, Leased, listedFees, SwapRow, SwapRows}
+use Rattle.search.specs.Taking.{atPlace, tryAdd, addAtCost, bestAdd, tryDrop, bestDrop, swapAtCost, bestSwapOut, swapOut, bestSwap, bestMove, Leased, listedFees, SwapRow, SwapRows}
 use Rattle.search.specs.Settling.{priced, neighboursBy}
 use Rattle.search.specs.declared.moves.Priced.{Priced}
 use Rattle.search.specs.declared.moves.Neighbourhood.{Neighbourhood}
 use Rattle.search.specs.declared.moves.Neighbourhood.the-variants.{AddDropSwap, Swap}
 use Rattle.search.proofs.ListedLaws.{inSet, list-room, places-few, places-count, place-below, place-in, through-listed, sum-listed}
 use Rattle.search.proofs.MoveLaws.{set-of, cost-of, cheaper-is-better, best-then, right-of, through-best}
+
+-- ---- one move, as the code tests it
+
+module _ (set from i k : ℕ) (b : Priced) where
+  -- a price that is not lower
+  pub add-dear : b .cost ≤ k → b ≡ tryAdd set from i k b
+  unfolding tryAdd cheaper
+  add-dear h = cases (member set i) (λ e. rw e) (λ e. rw (e, le-ltb k (b .cost) h))
+
+  pub add-open : member set i ≡ true → b ≡ tryAdd set from i k b
+  unfolding tryAdd
+  add-open e = rw e
+
+  pub add-taken : (x : ℕ) → k < b .cost → member set i ≡ false → x ≡ with32 from i → record { set = x; cost = k } ≡ tryAdd set from i k b
+  unfolding tryAdd cheaper
+  add-taken x l e h = rw (e, lt-ltb k (b .cost) l, h)
 
 -- ---- the best so far never costs more than before
 
@@ -62,7 +78,7 @@ drop-falls opening set cost kept list places top b low =
 
 swap-falls : (m set : ℕ) (costs kept : List ℕ) (o saved top : ℕ) (b : Priced) → b .cost ≤ top
     → bestSwapOut m set costs kept o saved b .cost ≤ top
-unfolding bestSwapOut swapAtCost trySwap
+unfolding bestSwapOut swapAtCost tryAdd
 swap-falls m set costs kept o saved top b low =
     through-holds (λ x. x .cost ≤ top) (swapAtCost set costs kept o saved) b m
     (λ i l x h. cases (member set i) (λ e. rw e h) (λ e. rw e (cheaper-falls _ _ top x h))) low
@@ -87,45 +103,12 @@ none-lower more at costs bound i none l =
     ltb-false (getD more (at + i) 0 + getD costs i 0) bound
     (fails (λ e. let some = count-some 32 i (lowerAt more at costs bound) l e in omega arith))
 
--- at a price that is not lower b stays
-swap-stays : (set o i k : ℕ) (b : Priced) → b .cost ≤ k → trySwap set o i k b ≡ b
-unfolding trySwap cheaper
-swap-stays set o i k b h = cases (member set i) (λ e. rw e) (λ e. rw (e, le-ltb k (b .cost) h))
-
 pub row-stays : (m set : ℕ) (costs kept : List ℕ) (o saved : ℕ) (b : Priced) → m ≤ 32
     → count 32 (lowerAt kept (320 + 32 * o) costs (b .cost + saved)) ≡ 0 → b ≡ bestSwapOut m set costs kept o saved b
 unfolding bestSwapOut swapAtCost
 row-stays m set costs kept o saved b few none =
     sym (through-keeps (swapAtCost set costs kept o saved) b m
-    (λ i l. swap-stays set o i _ b (let h = none-lower kept (320 + 32 * o) costs (b .cost + saved) i none (omega arith) in omega arith)))
-
--- ---- one move, as the code tests it: the price first
-
--- a price that is not lower
-pub add-dear : (set i k : ℕ) (b : Priced) → b .cost ≤ k → b ≡ tryAdd set i k b
-unfolding tryAdd cheaper
-add-dear set i k b h = cases (member set i) (λ e. rw e) (λ e. rw (e, le-ltb k (b .cost) h))
-
-pub add-open : (set i k : ℕ) (b : Priced) → member set i ≡ true → b ≡ tryAdd set i k b
-unfolding tryAdd
-add-open set i k b e = rw e
-
-pub add-taken : (set i k : ℕ) (b : Priced) (x : ℕ) → k < b .cost → member set i ≡ false → x ≡ with32 set i
-    → record { set = x; cost = k } ≡ tryAdd set i k b
-unfolding tryAdd cheaper
-add-taken set i k b x l e h = rw (e, lt-ltb k (b .cost) l, h)
-
-pub swap-open : (set o i k : ℕ) (b : Priced) → member set i ≡ true → b ≡ trySwap set o i k b
-unfolding trySwap
-swap-open set o i k b e = rw e
-
-pub swap-dear : (set o i k : ℕ) (b : Priced) → b .cost ≤ k → b ≡ trySwap set o i k b
-swap-dear set o i k b h = sym (swap-stays set o i k b h)
-
-pub swap-taken : (set o i k : ℕ) (b : Priced) (x y : ℕ) → k < b .cost → member set i ≡ false → x ≡ without set o → y ≡ with32 x i
-    → record { set = y; cost = k } ≡ trySwap set o i k b
-unfolding trySwap cheaper
-swap-taken set o i k b x y l e h g = rw (e, lt-ltb k (b .cost) l, g, h)
+    (λ i l. sym (add-dear set (without set o) i _ b (let h = none-lower kept (320 + 32 * o) costs (b .cost + saved) i none (omega arith) in omega arith))))
 
 -- ---- a turn of each loop, with what its calls answer
 
@@ -133,7 +116,7 @@ through-turn : (f : ℕ → Priced → Priced) (start b r : Priced) (i : ℕ) �
 through-turn f start b r i e h = h ∙ ap (f i) e ∙ sym (through-more f start i)
 
 pub adds-more : (set : ℕ) (costs : List ℕ) (start b r : Priced) (i : ℕ) → b ≡ through i (addAtCost set costs) start
-    → r ≡ tryAdd set i (getD costs i 0) b → r ≡ through (i + 1) (addAtCost set costs) start
+    → r ≡ tryAdd set set i (getD costs i 0) b → r ≡ through (i + 1) (addAtCost set costs) start
 unfolding addAtCost
 adds-more set costs start b r i e h = through-turn (addAtCost set costs) start b r i e h
 
@@ -146,12 +129,14 @@ drops-more opening set cost kept list start b r t x e removed h =
     through-turn (atPlace list (tryDrop opening set cost kept)) start b r t e
     (h ∙ ap (λ (y : ℕ). cheaper y (cost + getD kept (288 + getD list t 0) 0 - getD opening (getD list t 0) 0) b) removed)
 
-pub row-more : (set : ℕ) (costs kept : List ℕ) (o saved : ℕ) (start b r : Priced) (i : ℕ)
-    → b ≡ through i (swapAtCost set costs kept o saved) start
-    → r ≡ trySwap set o i (getD kept (320 + 32 * o + i) 0 + getD costs i 0 - saved) b
+pub row-more : (set : ℕ) (costs kept : List ℕ) (o saved : ℕ) (start b r : Priced) (i x : ℕ)
+    → b ≡ through i (swapAtCost set costs kept o saved) start → x ≡ without set o
+    → r ≡ tryAdd set x i (getD kept (320 + 32 * o + i) 0 + getD costs i 0 - saved) b
     → r ≡ through (i + 1) (swapAtCost set costs kept o saved) start
 unfolding swapAtCost
-row-more set costs kept o saved start b r i e h = through-turn (swapAtCost set costs kept o saved) start b r i e h
+row-more set costs kept o saved start b r i x e removed h =
+    through-turn (swapAtCost set costs kept o saved) start b r i e
+    (h ∙ ap (λ (y : ℕ). tryAdd set y i (getD kept (320 + 32 * o + i) 0 + getD costs i 0 - saved) b) removed)
 
 pub rows-more : (opening : List ℕ) (m set : ℕ) (costs kept list : List ℕ) (start b r : Priced) (t : ℕ)
     → b ≡ through t (atPlace list (swapOut opening m set costs kept)) start
@@ -240,7 +225,7 @@ module _ (m n : ℕ) (opening service : List ℕ) (set : ℕ) (costs kept : List
 
   swap-is : (o : ℕ) → o < m → member set o ≡ true → (i : ℕ) → i < m → (x : Priced) → Right x
       → swapAtCost set costs kept o (getD opening o 0) i x ≡ priced cost (best cost (x .set) (swapAt set o i))
-  unfolding swapAtCost trySwap swapAt best
+  unfolding swapAtCost tryAdd swapAt best
   swap-is o lo is-open i l x right =
       cases (member set i)
       (λ e. rw e right)

@@ -18,15 +18,15 @@ use Rattle.search.specs.declared.moves.Neighbourhood.the-variants.{AddDr
 abbrev pub atPlace : {A : Type 0} → List ℕ → (ℕ → A → A) → ℕ → A → A
 atPlace list f t b = f (getD list t 0) b
 
+-- `from` with i at this cost, where i is not in the set
+unfoldable pub tryAdd : ℕ → ℕ → ℕ → ℕ → Priced → Priced
+tryAdd set from i cost b = cond (member set i) b (cheaper (with32 from i) cost b)
+
 -- ---- adds
 
--- the set with i at this cost, where i is not in it
-unfoldable pub tryAdd : ℕ → ℕ → ℕ → Priced → Priced
-tryAdd set i cost b = cond (member set i) b (cheaper (with32 set i) cost b)
-
--- at the cost that the table has for it
+-- i at the cost that the table has for it
 unfoldable pub addAtCost : ℕ → List ℕ → ℕ → Priced → Priced
-addAtCost set costs i b = tryAdd set i (getD costs i 0) b
+addAtCost set costs i b = tryAdd set set i (getD costs i 0) b
 
 unfoldable pub bestAdd : ℕ → ℕ → List ℕ → Priced → Priced
 bestAdd m set costs start = through m (addAtCost set costs) start
@@ -44,13 +44,9 @@ bestDrop opening set cost kept list count start =
 
 -- ---- swaps
 
--- the set with i for o at this cost, where i is not in it
-unfoldable pub trySwap : ℕ → ℕ → ℕ → ℕ → Priced → Priced
-trySwap set o i cost b = cond (member set i) b (cheaper (with32 (without set o) i) cost b)
-
--- at the add's cost and what the clients of o pay more, less what is saved of opening costs
+-- i for o, at the add's cost and what the clients of o pay more, less what is saved of opening costs
 unfoldable pub swapAtCost : ℕ → List ℕ → List ℕ → ℕ → ℕ → ℕ → Priced → Priced
-swapAtCost set costs kept o saved i b = trySwap set o i (getD kept (320 + 32 * o + i) 0 + getD costs i 0 - saved) b
+swapAtCost set costs kept o saved i b = tryAdd set (without set o) i (getD kept (320 + 32 * o + i) 0 + getD costs i 0 - saved) b
 
 unfoldable pub bestSwapOut : ℕ → ℕ → List ℕ → List ℕ → ℕ → ℕ → Priced → Priced
 bestSwapOut m set costs kept o saved start = through m (swapAtCost set costs kept o saved) start

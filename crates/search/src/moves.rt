@@ -9,7 +9,7 @@ ghost use lib.ListN.{length};
 ghost use Rattle.model.specs.Loops.{on};
 ghost use Rattle.model.specs.Sets.{count};
 ghost use Rattle.search.specs.Choosing.{cheaper, Row, lowerAt};
-ghost use Rattle.search.specs.Taking.{tryAdd, bestAdd, Leased, bestDrop, trySwap, SwapRow, bestSwapOut, SwapRows, bestSwap, bestMove};
+ghost use Rattle.search.specs.Taking.{tryAdd, bestAdd, Leased, bestDrop, SwapRow, bestSwapOut, SwapRows, bestSwap, bestMove};
 use crate::near::LOSS;
 use crate::near::MORE;
 
@@ -36,9 +36,10 @@ pub(crate) fn better_of(x: u32, cost: u64, b: Priced) -> Priced
     }
 }
 
-// Yard i opened at this cost. Few prices are below the best so far, so that is asked before whether the yard is open.
-fn try_add(set: u32, i: usize, cost: u64, b: Priced) -> Priced
-    ensures { λ r. ⌜ r ≡ tryAdd set i cost b ⌝ }
+// Yard i opened in the set `from` at this cost, where it is closed in `set`. Few prices are below the best so far, so that is asked
+// before whether the yard is open.
+fn try_add(set: u32, from: u32, i: usize, cost: u64, b: Priced) -> Priced
+    ensures { λ r. ⌜ r ≡ tryAdd set from i cost b ⌝ }
 {
     if b.cost <= cost {
         return b;
@@ -47,7 +48,7 @@ fn try_add(set: u32, i: usize, cost: u64, b: Priced) -> Priced
         return b;
     }
     Priced {
-        set: sets::added(set, i),
+        set: sets::added(from, i),
         cost,
     }
 }
@@ -59,7 +60,7 @@ fn best_add(m: usize, set: u32, start: Priced, costs: &[u32]) -> Priced
     let mut b = start;
     let mut i = 0;
     while i < m {
-        b = try_add(set, i, costs[i] as u64, b);
+        b = try_add(set, set, i, costs[i] as u64, b);
         i += 1;
     }
     b
@@ -90,23 +91,6 @@ fn best_drop(
         t += 1;
     }
     b
-}
-
-// Yard o closed and yard i opened at this cost, where i is closed.
-fn try_swap(set: u32, o: usize, i: usize, cost: u64, b: Priced) -> Priced
-    ensures { λ r. ⌜ r ≡ trySwap set o i cost b ⌝ }
-{
-    if b.cost <= cost {
-        return b;
-    }
-    if sets::has(set, i) {
-        return b;
-    }
-    let without = sets::removed(set, o);
-    Priced {
-        set: sets::added(without, i),
-        cost,
-    }
 }
 
 // 1 for a price below the bound, 0 for another.
@@ -147,11 +131,12 @@ fn best_swap_out(
     if lower_count(kept, row, costs, start.cost as u32 + saved) == 0 {
         return start;
     }
+    let without = sets::removed(set, o);
     let mut b = start;
     let mut i = 0;
     while i < m {
         let price = kept[row + i] + costs[i] - saved;
-        b = try_swap(set, o, i, price as u64, b);
+        b = try_add(set, without, i, price as u64, b);
         i += 1;
     }
     b

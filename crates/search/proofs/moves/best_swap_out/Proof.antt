@@ -11,10 +11,10 @@ use Rattle.search.proofs.moves.best_swap_out.Statement.{statement}
 use Rattle.search.proofs.moves.best_swap_out.Tie as tie
 
 abbrev Inv-loop : tie.InvT-loop
-Inv-loop m set o saved costs kept row b₀ i₀ b i = (i ≤ m) × (b ≡ through i (swapAtCost set costs kept o saved) b₀)
+Inv-loop m set o saved costs kept row without b₀ i₀ b i = (i ≤ m) × (b ≡ through i (swapAtCost set costs kept o saved) b₀)
 
 abbrev μ-loop : tie.MeasureT-loop
-μ-loop m set o saved costs kept row b₀ i₀ b i = m - i
+μ-loop m set o saved costs kept row without b₀ i₀ b i = m - i
 
 mul-row : tie.Need-mul-row Inv-loop μ-loop
 mul-row c = omega arith
@@ -34,6 +34,9 @@ lower-count-requires c κs = c .before .before .before .pre .0 .row
 returns : tie.Need-returns Inv-loop μ-loop
 returns c = row-stays _ _ _ _ _ _ _ (c .before .before .before .before .before .pre .0 .few) (sym (c .before .lower-count .ensures) ∙ c .if1 .taken)
 
+removed-requires : tie.Need-removed-requires Inv-loop μ-loop
+removed-requires c κs = search needs
+
 loop-holds : tie.Need-loop-holds Inv-loop μ-loop
 loop-holds c = (omega arith, through-none _ _)
 
@@ -44,30 +47,30 @@ mul-price : tie.Need-mul-price Inv-loop μ-loop
 mul-price c = omega arith
 
 shared-slice-read-price : tie.Need-shared-slice-read-price Inv-loop μ-loop
-shared-slice-read-price c = let s = c .before .before .before .before .before .before .before .before in
+shared-slice-read-price c = let s = c .before .before .before .before .before .before .before .before .before in
     omega (arith, s .pre .0 .few, s .pre .0 .row .more-room)
 
 mul-price-2 : tie.Need-mul-price-2 Inv-loop μ-loop
 mul-price-2 c = omega arith
 
 shared-slice-read-price-2 : tie.Need-shared-slice-read-price-2 Inv-loop μ-loop
-shared-slice-read-price-2 c = let s = c .before .before .before .before .before .before .before .before .before in
+shared-slice-read-price-2 c = let s = c .before .before .before .before .before .before .before .before .before .before in
     omega (arith, s .pre .0 .few, s .pre .0 .row .costs-room)
 
 add-price-2 : tie.Need-add-price-2 Inv-loop μ-loop
-add-price-2 c = let s = c .before .before .before .before .before .before .before .before .before in
+add-price-2 c = let s = c .before .before .before .before .before .before .before .before .before .before in
     omega (arith, s .pre .0 .row .fits (c .before .before .before .loop .i) (omega (arith, s .pre .0 .few)))
 
 sub-price : tie.Need-sub-price Inv-loop μ-loop
-sub-price c = let s = c .before .before .before .before .before .before .before .before .before in
+sub-price c = let s = c .before .before .before .before .before .before .before .before .before .before in
     omega (arith, s .pre .0 .enough (c .before .before .before .loop .i) (omega (arith, s .pre .0 .few)))
 
-cast-try-swap : tie.Need-cast-try-swap Inv-loop μ-loop
-cast-try-swap c = let s = c .before .before .before .before .before .before .before .before .before in
+cast-try-add : tie.Need-cast-try-add Inv-loop μ-loop
+cast-try-add c = let s = c .before .before .before .before .before .before .before .before .before .before in
     omega (arith, s .pre .0 .row .fits (c .before .before .before .loop .i) (omega (arith, s .pre .0 .few)))
 
-try-swap-requires : tie.Need-try-swap-requires Inv-loop μ-loop
-try-swap-requires c κs = search needs
+try-add-requires : tie.Need-try-add-requires Inv-loop μ-loop
+try-add-requires c κs = search needs
 
 add-i : tie.Need-add-i Inv-loop μ-loop
 add-i c = omega arith
@@ -76,11 +79,12 @@ loop-less : tie.Need-loop-less Inv-loop μ-loop
 loop-less c = omega arith
 
 loop-again : tie.Need-loop-again Inv-loop μ-loop
-loop-again c = (omega arith, row-more _ _ _ _ _ _ _ _ _ (c .before .before .before .before .loop .inv .1) (c .try-swap .ensures))
+loop-again c = let l = c .before .before .before .before in
+    (omega arith, row-more _ _ _ _ _ _ _ _ _ _ (l .loop .inv .1) (l .before .removed .ensures) (c .try-add .ensures))
 
 returns-2 : tie.Need-returns-2 Inv-loop μ-loop
 unfolding bestSwapOut
-returns-2 c = let e : c .before .loop .i ≡ c .before .before .before .before .before .before .before .args .m = omega arith in
+returns-2 c = let e : c .before .loop .i ≡ c .before .before .before .before .before .before .before .before .args .m = omega arith in
     rw e at (c .before .loop .inv .1)
 
 pub best-swap-out-spec : {M : Type 1} → statement M
@@ -95,6 +99,7 @@ best-swap-out-spec =
     add-lower-count
     lower-count-requires
     returns
+    removed-requires
     loop-holds
     add-price
     mul-price
@@ -103,8 +108,8 @@ best-swap-out-spec =
     shared-slice-read-price-2
     add-price-2
     sub-price
-    cast-try-swap
-    try-swap-requires
+    cast-try-add
+    try-add-requires
     add-i
     loop-less
     loop-again

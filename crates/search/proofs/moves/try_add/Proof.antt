@@ -6,20 +6,20 @@ use Rattle.search.proofs.moves.try_add.Statement.{statement}
 use Rattle.search.proofs.moves.try_add.Tie as tie
 
 returns : tie.Need-returns
-returns c = add-dear _ _ _ _ (c .if1 .taken)
+returns c = add-dear _ _ _ _ _ (c .if1 .taken)
 
 has-requires : tie.Need-has-requires
 has-requires c κs = search needs
 
 returns-2 : tie.Need-returns-2
-returns-2 c = add-open _ _ _ _ (sym (c .before .has .ensures) ∙ c .if2 .taken)
+returns-2 c = add-open _ _ _ _ _ (sym (c .before .has .ensures) ∙ c .if2 .taken)
 
 added-requires : tie.Need-added-requires
 added-requires c κs = search needs
 
 returns-3 : tie.Need-returns-3
 returns-3 c =
-    add-taken _ _ _ _ _ (c .before .before .before .if1 .left) (sym (c .before .before .has .ensures) ∙ c .before .if2 .left) (c .added .ensures)
+    add-taken _ _ _ _ _ _ (c .before .before .before .if1 .left) (sym (c .before .before .has .ensures) ∙ c .before .if2 .left) (c .added .ensures)
 
 pub try-add-spec : {M : Type 1} → statement M
 try-add-spec = tie.close (tie.spec returns has-requires returns-2 added-requires returns-3)
