@@ -2,7 +2,7 @@
 -- take is the model's next set.
 use Prim.Native.Nat.{ℕ, _+_, _*_, _≤_, _<_}
 use native.Mathlib.Omega.{arith}
-use mathlib.Core.Path.{_≡_, ap, _∙_}
+use mathlib.Core.Path.{_≡_, _∙_}
 use mathlib.Core.Bool.{true}
 use mathlib.Core.List.{List}
 use lib.ListN.{length, getD}
@@ -16,7 +16,6 @@ use Rattle.search.specs.Tables.{tabled, tableCost}
 use Rattle.search.specs.Prices.{MovePrices}
 use Rattle.search.specs.Adding.{Added}
 use Rattle.search.specs.Standing.{Fees, Standing, Listed}
-use Rattle.search.specs.Choosing.{Row}
 use Rattle.search.specs.Taking.{bestMove, Leased, listedFees, SwapRow, SwapRows}
 use Rattle.search.specs.Settling.{priced, neighboursBy}
 use Rattle.search.specs.declared.moves.Priced.{Priced}

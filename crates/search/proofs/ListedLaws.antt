@@ -1,7 +1,7 @@
 -- Laws of the listed facilities of a set: going through their list is going through all numbers below m, where only those in the set count.
 -- Idea: by induction over m, since the list of the numbers below m + 1 is that below m, with m behind it where m is in the set.
 use Prim.Native.Nat.{ℕ, zero, suc, _+_, _-_, _^_, _≤_, _<_}
-use native.Mathlib.Nat.{le-refl, lt-suc-self}
+use native.Mathlib.Nat.{le-refl}
 use native.Mathlib.Omega.{arith}
 use mathlib.Core.Path.{_≡_, refl, sym, ap, _∙_}
 use mathlib.Core.Bool.{Bool, true, false, cond}
@@ -12,11 +12,10 @@ use Rattle.model.specs.Loops.{on, sum}
 use Rattle.model.specs.Passing.{through}
 use Rattle.model.specs.Sets.{sumOn, count, member}
 use Rattle.model.proofs.Bools.{cases, fails}
-use Rattle.model.proofs.SumLaws.{sum-cong}
 use Rattle.model.proofs.PassingLaws.{through-cong}
 use Rattle.model.proofs.SetLaws.{member-below}
-use Rattle.sets.specs.Members.{risingBelow, listing, membersBelow, membersOf}
-use Rattle.sets.proofs.MemberLaws.{Next, passed, rising-none, rising-in, rising-out, rising-few, rising-count, listed-next, list-length}
+use Rattle.sets.specs.Members.{risingBelow, listing, membersBelow}
+use Rattle.sets.proofs.MemberLaws.{rising-none, rising-in, rising-out, rising-few, rising-count, listed-next, list-length}
 use Rattle.search.specs.Standing.{Listed}
 use Rattle.search.specs.Taking.{atPlace}
 

@@ -4,37 +4,33 @@
 use Prim.Native.Nat.{ℕ, _+_, _-_, _*_, _^_, _≤_, _<_}
 use native.Mathlib.Decide.{decLt}
 use native.Mathlib.Omega.{arith}
-use mathlib.Core.Path.{_≡_, refl, sym, ap, _∙_}
+use mathlib.Core.Path.{_≡_, sym, ap, _∙_}
 use mathlib.Core.Bool.{true, false}
 use mathlib.Core.List.{List, _++_}
 use borrow.Author.Tests.{lt-ltb, le-ltb, ltb-false, lt-leb, le-leb}
 use lib.Dec.{ltb}
-use lib.ListN.{length, getD}
-use Rattle.model.specs.Loops.{on}
+use lib.ListN.{getD}
 use Rattle.model.specs.Passing.{through}
 use Rattle.model.specs.Sets.{count, member, with, without}
-use Rattle.model.specs.Instance.{openingCost, totalCost}
 use Rattle.model.specs.Neighbours.{addAt, adds, dropAt, drops, swapAt, swapsOut, swaps, addDropSwap}
 use Rattle.model.specs.Search.{best, next}
-use Rattle.model.specs.Plans.{openCost}
 use Rattle.model.proofs.Bools.{cases, fails}
-use Rattle.model.proofs.SumLaws.{sum-none, sum-more, sum-term}
+use Rattle.model.proofs.SumLaws.{sum-none, sum-more}
 use Rattle.model.proofs.CountLaws.{count-some}
 use Rattle.model.proofs.PassingLaws.{through-more, through-keeps, through-holds}
 use Rattle.sets.specs.Within.{with32}
 use Rattle.sets.proofs.SetLaws.{with32-below}
-use Rattle.search.specs.Tables.{tabled, tableCost}
+use Rattle.search.specs.Tables.{tableCost}
 use Rattle.search.specs.Prices.{MovePrices}
-use Rattle.search.specs.Adding.{Added}
 use Rattle.search.specs.Standing.{Listed}
-use Rattle.search.specs.Choosing.{cheaper, Row, lowerAt}
-use Rattle.search.specs.Taking.{atPlace, tryAdd, addAtCost, bestAdd, tryDrop, bestDrop, swapAtCost, bestSwapOut, swapOut, bestSwap, bestMove, Leased, listedFees, SwapRow, SwapRows}
+use Rattle.search.specs.Choosing.{cheaper, lowerAt}
+use Rattle.search.specs.Taking.{atPlace, tryAdd, addAtCost, bestAdd, tryDrop, bestDrop, swapAtCost, bestSwapOut, swapOut, bestSwap, bestMove, listedFees}
 use Rattle.search.specs.Settling.{priced, neighboursBy}
 use Rattle.search.specs.declared.moves.Priced.{Priced}
 use Rattle.search.specs.declared.moves.Neighbourhood.{Neighbourhood}
 use Rattle.search.specs.declared.moves.Neighbourhood.the-variants.{AddDropSwap, Swap}
-use Rattle.search.proofs.ListedLaws.{inSet, list-room, places-few, places-count, place-below, place-in, through-listed, sum-listed}
-use Rattle.search.proofs.MoveLaws.{set-of, cost-of, cheaper-is-better, best-then, right-of, through-best}
+use Rattle.search.proofs.ListedLaws.{inSet, places-count, through-listed}
+use Rattle.search.proofs.MoveLaws.{cost-of, cheaper-is-better, best-then, right-of, through-best}
 
 -- ---- one move, as the code tests it
 

@@ -28,12 +28,13 @@ tryAdd set from i cost b = cond (member set i) b (cheaper (with32 from i) cost b
 unfoldable pub addAtCost : ℕ → List ℕ → ℕ → Priced → Priced
 addAtCost set costs i b = tryAdd set set i (getD costs i 0) b
 
+-- every add of a number below m
 unfoldable pub bestAdd : ℕ → ℕ → List ℕ → Priced → Priced
 bestAdd m set costs start = through m (addAtCost set costs) start
 
 -- ---- drops
 
--- the set without o, at the cost now, its loss and what is saved of opening costs
+-- the set without o, at the cost now and its loss, less what is saved of opening costs
 unfoldable pub tryDrop : List ℕ → ℕ → ℕ → List ℕ → ℕ → Priced → Priced
 tryDrop opening set cost kept o b = cheaper (without set o) (cost + getD kept (288 + o) 0 - getD opening o 0) b
 
@@ -48,6 +49,7 @@ bestDrop opening set cost kept list count start =
 unfoldable pub swapAtCost : ℕ → List ℕ → List ℕ → ℕ → ℕ → ℕ → Priced → Priced
 swapAtCost set costs kept o saved i b = tryAdd set (without set o) i (getD kept (320 + 32 * o + i) 0 + getD costs i 0 - saved) b
 
+-- every swap of o for a number below m
 unfoldable pub bestSwapOut : ℕ → ℕ → List ℕ → List ℕ → ℕ → ℕ → Priced → Priced
 bestSwapOut m set costs kept o saved start = through m (swapAtCost set costs kept o saved) start
 
@@ -61,6 +63,7 @@ bestSwap opening m set costs kept list count start = through count (atPlace list
 
 -- ---- the moves of each kind
 
+-- the adds, the drops, the swaps, each from where the last ended; or the swaps alone
 unfoldable pub bestMove : Neighbourhood → List ℕ → ℕ → List ℕ → List ℕ → List ℕ → ℕ → Priced → Priced
 bestMove AddDropSwap opening m costs kept list count b =
     bestSwap opening m (b .set) costs kept list count

@@ -1,13 +1,10 @@
 -- `cost::fees_of` meets its contract. The invariant: the total is the sum of the opening costs passed, each within its bound.
 use Rattle.search.proofs.MoveLaws.{widens8}
 use Rattle.search.proofs.TakingLaws.{fees-none, fees-more}
-use Prim.Native.Nat.{_≤_, _-_, _+_, _*_}
+use Prim.Native.Nat.{_≤_, _-_, _*_}
 use native.Mathlib.Omega.{arith}
-use mathlib.Core.Path.{_≡_, ap, sym, _∙_}
+use mathlib.Core.Path.{_≡_}
 use borrow.Author.Needs.{needs}
-use lib.ListN.{getD}
-use Rattle.model.specs.Loops.{sum}
-use Rattle.model.proofs.SumLaws.{sum-none, sum-more}
 use Rattle.search.specs.Taking.{listedFees}
 use Rattle.search.proofs.cost.fees_of.Statement.{statement}
 use Rattle.search.proofs.cost.fees_of.Tie as tie

@@ -1,11 +1,10 @@
 -- `moves::best_drop` meets its contract. The invariant: b is what the drops passed have taken.
 use Rattle.search.proofs.MoveLaws.{widens, widens8, price-fits}
-use Prim.Native.Nat.{_≤_, _-_, _+_}
+use Prim.Native.Nat.{_≤_, _-_}
 use native.Mathlib.Omega.{arith}
 use mathlib.Core.Path.{_≡_}
 use borrow.Author.Needs.{needs}
 use borrow.Author.Tests.{lt-ltb, le-ltb}
-use lib.ListN.{getD}
 use Rattle.model.specs.Passing.{through}
 use Rattle.model.proofs.PassingLaws.{through-none}
 use Rattle.search.specs.Taking.{atPlace, tryDrop, bestDrop}
