@@ -1,21 +1,22 @@
 -- Laws of going from client to client: what a client's new places say of it and of the others.
-use Prim.Native.Nat.{ℕ, _+_, _≤_, _<_}
+use Prim.Native.Nat.{ℕ, _+_, _%_, _≤_, _<_}
 use native.Mathlib.Nat.{not-suc-le-zero}
 use native.Mathlib.Omega.{arith}
 use mathlib.Core.Path.{_≡_, refl, sym, ap, subst, _∙_}
-use mathlib.Core.Bool.{Bool, true, false, not}
+use mathlib.Core.Bool.{Bool, true, false, not, _&&_}
 use mathlib.Core.List.{List}
-use borrow.Author.Tests.{leb-true, le-leb, lt-leb, not-true}
+use borrow.Author.Tests.{leb-true, le-leb, lt-leb, ne-eqb, not-true}
 use lib.Dec.{leb}
-use Rattle.model.specs.TwoLeast.{Two}
+use Rattle.model.specs.Sets.{member, plus}
+use Rattle.model.specs.TwoLeast.{Two, insert}
 use Rattle.model.proofs.Bools.{and-left, and-right}
 use Rattle.model.proofs.LoopLaws.{up-to}
 use Rattle.sets.specs.declared.Members.{Members}
 use Rattle.sets.specs.Members.{membersOf}
-use Rattle.search.specs.Prices.{InOrder, firstAt, secondAt, nearTwo, nearOf, NearAt, Moved, arrivalAt, goesTo}
+use Rattle.search.specs.Prices.{InOrder, firstAt, secondAt, nearTwo, twoOf, nearOf, NearAt, Moved, arrivalAt, goesTo}
 use Rattle.search.specs.Standing.{Listed, Uncounted, NearUpTo, NearFrom, Others, PutAt, keeps}
 use Rattle.search.specs.declared.near.Near.{Near}
-use Rattle.search.proofs.NearLaws.{near-stays, near-in-order}
+use Rattle.search.proofs.NearLaws.{near-stays, near-with, near-in-order}
 
 -- ---- a table after a client's two places were put
 
@@ -118,3 +119,33 @@ near-kept m service kept set next came went j arrived few moved here arrives sai
     (near-stays m service set next came went j few moved near (near-is m service kept set j here)
     (subst (λ (x : ℕ). secondAt kept j ≤ x) arrives (both .0)) (both .1))
     here
+
+-- ---- where none went
+
+-- no facility is numbered 32, so one that went is as good as any number from 32 on
+pub none-went : (m set next came went : ℕ) → m ≤ 32 → 32 ≤ went → Moved m set next came went → Moved m set next came 32
+none-went m set next came went few none moved =
+    record {
+      after =
+          λ k l. moved .after k l
+          ∙ ap (λ (b : Bool). not b && plus (member set) came k) (ne-eqb went k (λ q. omega arith) ∙ sym (ne-eqb 32 k (λ q. omega arith)));
+      comes = moved .comes;
+      goes = λ l. let none : ⊥ = omega arith in absurd none;
+    }
+
+goes-nowhere : (near : Near) → goesTo near 32 ≡ false
+unfolding goesTo
+goes-nowhere near = rw (ne-eqb (near .first % 32) 32 (λ q. omega arith), ne-eqb (near .second % 32) 32 (λ q. omega arith))
+
+pub keeps-joined : (near : Near) (arrived : ℕ) → near .second ≤ arrived → keeps near arrived 32 ≡ true
+unfolding keeps
+keeps-joined near arrived l = rw (le-leb (near .second) arrived l, goes-nowhere near)
+
+-- with the one that came inserted, its two nearest are those of the next set
+pub near-joined : (m : ℕ) (service kept : List ℕ) (set next came j arrived : ℕ) (after : Near) → m ≤ 32 → Moved m set next came 32
+    → NearAt m service kept set j → arrived ≡ arrivalAt m service came j
+    → after ≡ nearOf (insert arrived (twoOf (record { first = firstAt kept j; second = secondAt kept j })))
+    → after ≡ nearOf (nearTwo m service next j)
+near-joined m service kept set next came j arrived after few moved here arrives is =
+    near-with m service set next came 32 j few moved (record { first = firstAt kept j; second = secondAt kept j }) after arrived
+    (near-is m service kept set j here) arrives is (goes-nowhere after)

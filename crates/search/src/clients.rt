@@ -6,10 +6,12 @@ ghost use Rattle.model.specs.Least.{any};
 ghost use Rattle.model.specs.Sets.{member};
 ghost use Rattle.search.specs.Prices.{Kept, NearAt, Moved, newIn};
 ghost use Rattle.search.specs.Standing.{Standing, Listed, Uncounted, NearUpTo, NearFrom, Others, keeps};
+use crate::near::MOST_FACILITIES;
 use crate::near::Near;
 use crate::near::SECONDS;
 use crate::near::arrival;
 use crate::near::goes_to;
+use crate::near::inserted;
 use crate::near::near_after;
 use crate::near::near_of;
 use crate::near::newcomer;
@@ -141,6 +143,55 @@ fn move_clients(
     }
 }
 
+// Client j after a facility came and none went.
+fn add_client(
+    service: &[u32],
+    m: usize,
+    n: usize,
+    j: usize,
+    set: u32,
+    next: u32,
+    came: usize,
+    kept: &mut [u32],
+)
+    requires { ⌜ Kept m n (now service) (now kept) × (j < n) × NearAt m (now service) (now kept) set j × Moved m set next came 32 ⌝ }
+    ensures kept { λ _. ⌜ Kept m n (now (service .entry)) (now (kept .exit)) ⌝ }
+    ensures near { λ _. ⌜ NearAt m (now (service .entry)) (now (kept .exit)) next j ⌝ }
+    ensures others { λ _. ⌜ Others j (now (kept .entry)) (now (kept .exit)) ⌝ }
+{
+    let near = Near {
+        first: kept[j],
+        second: kept[SECONDS + j],
+    };
+    let arrived = arrival(service, m, n, j, came);
+    if near.second <= arrived {
+        return;
+    }
+    let after = inserted(arrived, near);
+    change(service, m, n, j, after, kept);
+}
+
+// A loop of its own for adds, which open plans make most: it has no list to go through, and the compiler makes it shorter.
+fn add_clients(
+    service: &[u32],
+    m: usize,
+    n: usize,
+    set: u32,
+    next: u32,
+    came: usize,
+    kept: &mut [u32],
+)
+    requires { ⌜ Kept m n (now service) (now kept) × NearFrom m n (now service) (now kept) set next 0 × Moved m set next came 32 ⌝ }
+    ensures kept { λ _. ⌜ Kept m n (now (service .entry)) (now (kept .exit)) ⌝ }
+    ensures near { λ _. ⌜ NearFrom m n (now (service .entry)) (now (kept .exit)) set next n ⌝ }
+{
+    let mut j = 0;
+    while j < n {
+        add_client(service, m, n, j, set, next, came, kept);
+        j += 1;
+    }
+}
+
 // Goes from a set to the next one, which a move makes of it.
 pub(crate) fn move_to(service: &[u32], m: usize, n: usize, set: u32, next: u32, kept: &mut [u32])
     requires { ⌜ Standing m n (now service) set (now kept) × Moved m set next (newIn set next) (newIn next set) × (next < 2 ^ m) × (any m (member next) ≡ true) ⌝ }
@@ -148,6 +199,10 @@ pub(crate) fn move_to(service: &[u32], m: usize, n: usize, set: u32, next: u32, 
 {
     let came = newcomer(set, next);
     let went = newcomer(next, set);
+    if MOST_FACILITIES <= went {
+        add_clients(service, m, n, set, next, came, kept);
+        return;
+    }
     let members = sets::members_of(next);
     let list = members.list;
     let count = members.count;

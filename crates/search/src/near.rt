@@ -26,10 +26,10 @@ pub(crate) const MORE: usize = 320;
 
 pub(crate) const KEPT: usize = 1344;
 
-const MOST_FACILITIES: usize = 32;
+pub(crate) const MOST_FACILITIES: usize = 32;
 
 // The two nearest of x and of two.
-fn inserted(x: u32, near: Near) -> Near
+pub(crate) fn inserted(x: u32, near: Near) -> Near
     ensures { λ r. ⌜ r ≡ nearOf (insert x (twoOf near)) ⌝ }
 {
     if x < near.first {
