@@ -62,54 +62,35 @@ impl<'a> Search<'a> {
         self.yards = Yards::of(next);
         self.moves += 1;
         let yard = came.trailing_zeros() as usize % MOST_YARDS;
-        let touched = match (came, went) {
-            (_, 0) => self.farms(|row, near| near.changes_with(row, yard)),
-            (0, _) => self.farms(|_, near| near.goes_to(went)),
-            _ => self.farms(|row, near| near.changes_with(row, yard) | near.goes_to(went)),
-        };
-        for farm in touched.iter() {
-            let row = &self.hauls.rows()[farm];
-            let before = self.near[farm];
-            let mut now = before;
-            if came != 0 {
-                now = now.with(row, yard);
-            }
-            if now.goes_to(went) {
-                now = now.without(went, row, &self.yards);
-            }
-            self.prices.change(row, before, now);
-            self.near[farm] = now;
+        match (came, went) {
+            (_, 0) => self.price_again(came, went, |row, near| near.changes_with(row, yard)),
+            (0, _) => self.price_again(came, went, |_, near| near.goes_to(went)),
+            _ => self.price_again(came, went, |row, near| near.changes_with(row, yard) || near.goes_to(went)),
         }
     }
 
-    /// The farms that pass a test. Each is written to the list, and counted where it passes: a branch on the test would
-    /// often be guessed wrong.
+    /// The farms that pass the test: a loop of its own for each kind of move.
     #[inline(always)]
-    fn farms(&self, test: impl Fn(&Amounts, Near) -> bool) -> Farms {
-        let mut farms = Farms { list: [0; MOST_FARMS], count: 0 };
-        for (farm, (row, &near)) in self.hauls.rows().iter().zip(&self.near).enumerate() {
-            farms.list[farms.count % MOST_FARMS] = farm as u8;
-            farms.count += usize::from(test(row, near));
+    fn price_again(&mut self, came: u32, went: u32, touched: impl Fn(&Amounts, Near) -> bool) {
+        let yard = came.trailing_zeros() as usize % MOST_YARDS;
+        for (row, near) in self.hauls.rows().iter().zip(&mut self.near) {
+            let before = *near;
+            if !touched(row, before) {
+                continue;
+            }
+            if came != 0 {
+                *near = near.with(row, yard);
+            }
+            if near.goes_to(went) {
+                *near = near.without(went, row, &self.yards);
+            }
+            self.prices.change(row, before, *near);
         }
-        farms
     }
 
     /// Writes the plan. Its total counts these fees.
     fn write(&self, fees: &Amounts, area: &mut [u8]) -> Written {
         let served = self.near.iter().map(|near| near.first);
         area::write(self.hauls, &self.yards, served, fees, self.moves, area)
-    }
-}
-
-/// Some farms, by number.
-struct Farms {
-    list: [u8; MOST_FARMS],
-    count: usize,
-}
-
-impl Farms {
-    /// The remainder changes nothing, as with yards.
-    fn iter(&self) -> impl Iterator<Item = usize> + '_ {
-        self.list[..self.count].iter().map(|&farm| usize::from(farm) % MOST_FARMS)
     }
 }
