@@ -1,6 +1,6 @@
 -- Laws of the two least values: for loops, and after one number comes into the set or goes out of it.
 -- One value more comes in by `insert`, in any order; so a set without o has the two from which `insert (v o)` makes those of the set.
-use Prim.Native.Nat.{ℕ, zero, suc, _+_, _*_, _/_, _%_, _≤_, _<_, min, max, zero-le}
+use Prim.Native.Nat.{ℕ, zero, suc, _+_, _/_, _%_, _≤_, _<_, min, max, zero-le}
 use native.Mathlib.Nat.{le-refl, le-step, le-of-lt, lt-suc-self, not-suc-le-zero, min-eq-left, min-eq-right, max-comm}
 use native.Mathlib.Numerals.{add-one}
 use native.Mathlib.Omega.{arith}

@@ -1,38 +1,26 @@
 -- Laws of the search's two loops. The start: the cheapest facility is found one after the other. The search: from where it is, with
 -- the start's cost less the moves made as fuel, it ends where the whole search ends.
-use Prim.Native.Nat.{ℕ, _+_, _-_, _*_, _^_, _≤_, _<_}
+use Prim.Native.Nat.{ℕ, _+_, _-_, _^_, _≤_, _<_}
 use native.Mathlib.Nat.{sub-zero}
 use native.Mathlib.Omega.{arith}
-use mathlib.Core.Path.{_≡_, refl, sym, ap, ap₂, subst, fun-ext, _∙_}
+use mathlib.Core.Path.{_≡_, sym, ap, ap₂, subst, _∙_}
 use mathlib.Core.Bool.{true}
 use mathlib.Core.List.{List}
-use lib.ListN.{length, getD}
-use Rattle.model.specs.Least.{any, arg}
-use Rattle.model.specs.Sets.{member}
+use Rattle.model.specs.Least.{arg}
 use Rattle.model.specs.Search.{Among, better, next, descend, search}
-use Rattle.model.specs.Neighbours.{swaps, addDropSwap}
-use Rattle.model.specs.Plans.{openCost, openStart, openSearch, limitedCost, limitedStart, limitedSearch}
+use Rattle.model.specs.Neighbours.{addDropSwap}
+use Rattle.model.specs.Plans.{openStart}
 use Rattle.model.proofs.SetLaws.{with-none}
 use Rattle.model.proofs.NeighbourLaws.{Move, swapped, among-swap, among-move}
 use Rattle.model.proofs.SearchLaws.{step-among, descend-stops, descend-turn}
-use Rattle.model.proofs.LeastLaws.{any-counted}
-use Rattle.model.proofs.PlanLaws.{open-start, limited-start, start-one, start-more, same-start}
-use Rattle.sheet.specs.Sheet.{instanceBy}
+use Rattle.model.proofs.PlanLaws.{start-one, start-more}
 use Rattle.sets.specs.Within.{with32}
 use Rattle.sets.proofs.SetLaws.{with32-below}
-use Rattle.search.specs.Tables.{tabled, tableCost, Holds, Zeros}
-use Rattle.search.specs.Amounts.{Behind, Front}
-use Rattle.search.specs.Prices.{Rows, Kept}
-use Rattle.search.specs.Shifting.{ColumnSums, Aside}
-use Rattle.search.specs.Standing.{NearUpTo}
-use Rattle.search.specs.Settling.{priced, neighboursBy, settledAt, openEnd, limitedEnd}
+use Rattle.search.specs.Tables.{tabled, tableCost}
+use Rattle.search.specs.Settling.{priced, neighboursBy, settledAt}
 use Rattle.search.specs.declared.moves.Priced.{Priced}
-use Rattle.search.specs.declared.descent.Settled.{Settled}
 use Rattle.search.specs.declared.moves.Neighbourhood.{Neighbourhood}
 use Rattle.search.specs.declared.moves.Neighbourhood.the-variants.{AddDropSwap, Swap}
-use Rattle.search.proofs.TableLaws.{open-cost-is, limited-cost-is}
-use Rattle.search.proofs.KeptLaws.{kept-start}
-use Rattle.search.proofs.ClientLaws.{none-begun}
 use Rattle.search.proofs.MoveLaws.{set-of, cost-of}
 
 -- ---- the start

@@ -5,6 +5,8 @@
 pub mod TableLaws
 pub mod ShiftingLaws
 pub mod KeptLaws
+pub mod StoredLaws
+pub mod KeptChangeLaws
 pub mod NearLaws
 pub mod PriceLaws
 pub mod AloneLaws

@@ -36,14 +36,6 @@ use Rattle.search.specs.Planning.{openPlan, limitedPlan, question7, open
 use Rattle.search.specs.Preparing.{endBy, ReadAs, planningAfter}
 use Rattle.search.specs.WithoutRule.{openPlanningWithoutRule, limitedPlanningWithoutRule}
 
--- what a call that wrote the plan q answers and leaves, where q is the plan that it is to make
-pub made : (outcome : Answer Plan) (p q : Plan) (r : Planned) (area next : List ℕ) → outcome ≡ accepted p → q ≡ p
-    → meaning r ≡ answer (accepted q) → next ≡ areaAfter (accepted q) area
-    → (meaning r ≡ answer outcome) × (next ≡ areaAfter outcome area)
-made outcome p q r area next e same-plan says leaves =
-    let is : accepted q ≡ outcome = ap accepted same-plan ∙ sym e in
-    (says ∙ ap answer is, leaves ∙ ap (λ o. areaAfter o area) is)
-
 -- the writer, given a settled set and its farms' nearest yards, leaves its plan
 pub writes-settled : (s : List ℕ) (m n : ℕ) (r : Settled) (numbers area next : List ℕ) (bytes : ℕ) → Shape s m n
     → question9 m n (length area) ≡ true → Known s m n (r .set) numbers

@@ -7,7 +7,7 @@ use mathlib.Core.Path.{_≡_, refl, sym, ap, ap₂, subst, fun-ext, _∙_}
 use mathlib.Core.Bool.{true}
 use mathlib.Core.List.{List}
 use lib.ListN.{length, getD}
-use Rattle.model.specs.Least.{any, least, arg}
+use Rattle.model.specs.Least.{any, arg}
 use Rattle.model.specs.Sets.{member}
 use Rattle.model.specs.Instance.{nearest, assigned}
 use Rattle.model.specs.Search.{search}
@@ -22,9 +22,9 @@ use Rattle.sheet.specs.Shape.{Shape}
 use Rattle.price.specs.Known.{Known}
 use Rattle.search.specs.Tables.{tabled, tableCost, Holds, Zeros}
 use Rattle.search.specs.Amounts.{Within, AtMost, Behind, Front}
-use Rattle.search.specs.Prices.{entry, nearTwo, firstAt, Kept}
+use Rattle.search.specs.Prices.{entry, nearTwo, firstAt}
 use Rattle.search.specs.Shifting.{ColumnSums, Aside}
-use Rattle.search.specs.Standing.{Standing, Uncounted}
+use Rattle.search.specs.Standing.{Standing}
 use Rattle.search.specs.Settling.{neighboursBy, settledAt, openEnd, limitedEnd}
 use Rattle.search.specs.Preparing.{startBy, endBy, OpeningBy, Prepared}
 use Rattle.search.specs.declared.descent.Settled.{Settled}

@@ -1,5 +1,5 @@
 -- `prices::change` meets its contract: the second alone, or the client counted out and in again.
-use Rattle.search.proofs.KeptLaws.{put-as, put-again}
+use Rattle.search.proofs.KeptChangeLaws.{put-as, put-again}
 use borrow.Author.Needs.{needs}
 use Rattle.search.proofs.prices.change.Statement.{statement}
 use Rattle.search.proofs.prices.change.Tie as tie

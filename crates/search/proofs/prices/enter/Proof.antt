@@ -1,7 +1,8 @@
 -- `prices::enter` meets its contract: the laws of the sums that are kept, with what `shift_in` answers.
 use native.Mathlib.Omega.{arith}
 use lib.ListN.{length-set}
-use Rattle.search.proofs.KeptLaws.{kept-row-small, enter-ready, enter-loss-fits, enter-put, enter-kept}
+use Rattle.search.proofs.KeptLaws.{kept-row-small, enter-ready}
+use Rattle.search.proofs.KeptChangeLaws.{enter-loss-fits, enter-put, enter-kept}
 use borrow.Author.Needs.{needs}
 use Rattle.search.proofs.prices.enter.Statement.{statement}
 use Rattle.search.proofs.prices.enter.Tie as tie

@@ -1,7 +1,8 @@
 -- `prices::leave` meets its contract: the laws of the sums that are kept, with what `shift_out` answers.
 use native.Mathlib.Omega.{arith}
 use lib.ListN.{length-set}
-use Rattle.search.proofs.KeptLaws.{kept-row-small, leave-ready, leave-loss-fits, leave-loss-enough, leave-put, leave-kept}
+use Rattle.search.proofs.KeptLaws.{kept-row-small, leave-ready}
+use Rattle.search.proofs.KeptChangeLaws.{leave-loss-fits, leave-loss-enough, leave-put, leave-kept}
 use borrow.Author.Needs.{needs}
 use Rattle.search.proofs.prices.leave.Statement.{statement}
 use Rattle.search.proofs.prices.leave.Tie as tie

@@ -1,6 +1,7 @@
 -- `prices::set_second` meets its contract: the laws of the sums that are kept, with what `shift` answers.
 use lib.ListN.{length-set}
-use Rattle.search.proofs.KeptLaws.{kept-row-small, second-ready, second-loss-fits, second-loss-enough, second-put, second-kept}
+use Rattle.search.proofs.KeptLaws.{kept-row-small, second-ready}
+use Rattle.search.proofs.KeptChangeLaws.{second-loss-fits, second-loss-enough, second-put, second-kept}
 use native.Mathlib.Omega.{arith}
 use borrow.Author.Needs.{needs}
 use Rattle.search.proofs.prices.set_second.Statement.{statement}
