@@ -5,7 +5,7 @@ use native.Mathlib.Nat.{le-step, lt-suc-self, not-suc-le-zero, eq-or-lt-of-le, l
 use native.Mathlib.Numerals.{add-one}
 use native.Mathlib.Omega.{arith}
 use native.Mathlib.Decide.{decLt}
-use mathlib.Core.Path.{_≡_, refl, ap, subst, _∙_}
+use mathlib.Core.Path.{_≡_, refl, ap, ap₂, subst, _∙_}
 use mathlib.Core.Logic.{_⊎_, inl, inr}
 use mathlib.Core.Bool.{Bool, true, false, cond, _&&_, and-false, true≢false}
 use mathlib.Core.List.{List, [], _++_}
@@ -40,16 +40,6 @@ all-stops p (suc n) i h e =
       | yes l ↦ ap (λ (b : Bool). b && p n) (all-stops p n i l e)
       | no g ↦ ap (λ (k : ℕ). allBelow n p && p k) (omega arith) ∙ ap (λ (b : Bool). allBelow n p && b) e ∙ and-false (allBelow n p)
     ]
-
--- a loop that does not end early: `good && here` is the next `good`
-module _ (p : ℕ → Bool) (i : ℕ) {good next : Bool} (e : good ≡ allBelow i p) where
-  pub all-kept : {here : Bool} → here ≡ p i → good ≡ true → next ≡ here → next ≡ allBelow (i + 1) p
-  unfolding allBelow
-  all-kept h kept n = rw (add-one, ← e, kept, ← h) n
-
-  pub all-lost : good ≡ false → next ≡ good → next ≡ allBelow (i + 1) p
-  unfolding allBelow
-  all-lost lost n = rw (add-one, ← e, lost) (n ∙ lost)
 
 -- the readable form: p holds of each index
 pub all-at : (p : ℕ → Bool) (n i : ℕ) → allBelow n p ≡ true → i < n → p i ≡ true
@@ -120,3 +110,8 @@ join-none f = refl
 pub join-more : (f : ℕ → List ℕ) (i : ℕ) → join (i + 1) f ≡ join i f ++ f i
 unfolding join
 join-more f i = rw add-one
+
+pub join-cong : (n : ℕ) (f g : ℕ → List ℕ) → ((i : ℕ) → i < n → f i ≡ g i) → join n f ≡ join n g
+unfolding join
+join-cong zero f g h = refl
+join-cong (suc n) f g h = ap₂ _++_ (join-cong n f g (λ i l. h i (le-step l))) (h n (lt-suc-self n))

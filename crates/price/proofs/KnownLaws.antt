@@ -2,7 +2,7 @@
 -- yards it is the plan of the set.
 use Prim.Native.Nat.{ℕ, zero, suc, _+_, _*_, _/_, _%_, _≤_, _<_}
 use native.Mathlib.Omega.{arith}
-use mathlib.Core.Path.{_≡_, refl, ap₂, _∙_}
+use mathlib.Core.Path.{_≡_, refl, _∙_}
 use mathlib.Core.Bool.{true, false, and-true}
 use mathlib.Core.List.{List, [], _++_, append-assoc}
 use borrow.Author.Tests.{le-leb, lt-leb}
@@ -10,6 +10,7 @@ use lib.ListN.{length, getD, length-append}
 use lib.Dec.{leb}
 use Rattle.model.specs.Loops.{join}
 use Rattle.model.specs.Sets.{count, member}
+use Rattle.model.proofs.LoopLaws.{join-cong}
 use Rattle.model.proofs.CountLaws.{count-le}
 use Rattle.sheet.specs.Records.{recordOf, bytesOf, splice}
 use Rattle.sheet.specs.Sheet.{instanceBy}
@@ -114,11 +115,6 @@ module _ (s : List ℕ) (m n set : ℕ) (numbers : List ℕ) (total moves : ℕ)
       )
 
 -- ---- with the numbers of the nearest yards
-
-join-cong : (n : ℕ) (f g : ℕ → List ℕ) → ((j : ℕ) → j < n → f j ≡ g j) → join n f ≡ join n g
-unfolding join
-join-cong zero f g h = refl
-join-cong (suc n) f g h = ap₂ _++_ (join-cong n f g (λ j l. h j (omega arith))) (h n (omega arith))
 
 module _ (s : List ℕ) (m n set : ℕ) (numbers : List ℕ) (known : Known s m n set numbers) where
   known-farm : (j : ℕ) → j < n → farmRecordBy numbers j ≡ farmRecord (instanceBy s m n) set j
