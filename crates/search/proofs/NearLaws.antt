@@ -1,11 +1,13 @@
 -- Laws of a client's two nearest facilities: counted along the list of a set's facilities, and after a move.
--- A facility that came is inserted; one that went leaves no trace where neither of the two names it.
-use Prim.Native.Nat.{ℕ, zero, suc, _+_, _*_, _%_, _^_, _≤_, _<_}
+-- A facility that came is inserted; one that went leaves no trace where neither of the two names it, else the other of the two is the
+-- nearest, and the second is the least along the list other than that one.
+use Prim.Native.Nat.{ℕ, zero, suc, _+_, _*_, _%_, _^_, _≤_, _<_, min}
 use native.Mathlib.Nat.{le-refl, le-step, lt-suc-self, lt-of-lt-of-le}
 use native.Mathlib.Numerals.{add-one}
 use native.Mathlib.Omega.{arith}
 use native.Mathlib.Decide.{decLt}
 use mathlib.Core.Path.{_≡_, refl, sym, ap, _∙_}
+use mathlib.Core.Logic.{inl, inr}
 use mathlib.Core.Bool.{Bool, true, false, cond, not, _&&_, _||_}
 use mathlib.Core.List.{List}
 use borrow.Author.Tests.{le-ltb, ne-eqb, eqb-true, eqb-false}
@@ -18,7 +20,7 @@ use Rattle.model.proofs.Bools.{clash, fails, or-right, or-left, eqb-self, Eq?, 
 use Rattle.model.proofs.LoopLaws.{leading-none, leading-more, leading-stops}
 use Rattle.model.proofs.SetLaws.{member-with, member-without, member-trade, member-below}
 use Rattle.model.proofs.NeighbourLaws.{Move, added, dropped, swapped}
-use Rattle.model.proofs.TwoLeastLaws.{two-none, two-take, two-skip, two-cong, two-ordered, two-below, two-with, packed-without}
+use Rattle.model.proofs.TwoLeastLaws.{two-none, two-take, two-skip, two-cong, two-ordered, two-below, two-with, first-with, first-attained, packed-facility, packed-without, packed-first-without, otherThan, packed-second}
 use Rattle.sheet.proofs.ShapeLaws.{few-hauls, row-within}
 use Rattle.sets.specs.Members.{membersOf}
 use Rattle.sets.proofs.MemberLaws.{passed, passed-none, passed-more, Next, Last, member-at, none-after, count-few, list-length}
@@ -71,14 +73,48 @@ module _ (m : ℕ) (service : List ℕ) (set j : ℕ) where
       rw (near-is, x-is, passed-more list t, take, skip)
 
   -- all places are passed
-  pub near-all : (list : List ℕ) (count : ℕ) → list ≡ membersOf set .list → count ≡ membersOf set .count → m ≤ 32 → set < 2 ^ m
-      → nearBelow (passed list count) ≡ nearTwo m service set j
-  unfolding nearTwo
-  near-all list count list-is count-is few small =
-      let v = packed (entry m service j) in
+  passed-all : (v : ℕ → ℕ) (list : List ℕ) (count : ℕ) → list ≡ membersOf set .list → count ≡ membersOf set .count → m ≤ 32 → set < 2 ^ m
+      → twoLeast farthest (passed list count) (member set) v ≡ twoLeast farthest m (member set) v
+  passed-all v list count list-is count-is few small =
       let r = last set list count list-is count-is in
       sym (two-skip farthest (passed list count) 32 (member set) v (r .within) (r .none))
       ∙ two-skip farthest m 32 (member set) v few (λ i a b. fails (λ e. let l = member-below m set i small e in omega arith))
+
+  pub near-all : (list : List ℕ) (count : ℕ) → list ≡ membersOf set .list → count ≡ membersOf set .count → m ≤ 32 → set < 2 ^ m
+      → nearBelow (passed list count) ≡ nearTwo m service set j
+  unfolding nearTwo
+  near-all = passed-all (packed (entry m service j))
+
+  -- what facility i is to client j, and is missing where it is the one that is known
+  abbrev others : ℕ → ℕ → ℕ
+  others first i = otherThan farthest first (packed (entry m service j) i)
+
+  -- the nearest of those below p
+  abbrev pub leastBelow : ℕ → ℕ → ℕ
+  leastBelow first p = twoLeast farthest p (member set) (others first) .first
+
+  pub least-none : (first : ℕ) (list : List ℕ) → farthest ≡ leastBelow first (passed list 0)
+  least-none first list = rw (passed-none list) (ap (λ (t : Two). t .first) (two-none farthest (member set) (others first)))
+
+  -- a turn, with what its calls answer: the lesser of the facility at place t and of the least so far
+  pub least-more : (first : ℕ) (list : List ℕ) (t x y least : ℕ) → Next set 32 (passed list t) (getD list t 0)
+      → least ≡ leastBelow first (passed list t) → x ≡ packed (entry m service j) (getD list t 0) → y ≡ otherThan farthest first x
+      → min y least ≡ leastBelow first (passed list (t + 1))
+  least-more first list t x y least r least-is x-is y-is =
+      let i = getD list t 0 in
+      let v = others first in
+      let skip = two-skip farthest (passed list t) i (member set) v (r .rises) (r .none) in
+      let take = two-take farthest (member set) v i (r .is-in) in
+      rw (least-is, y-is, x-is, passed-more list t)
+      (sym (ap (λ (u : Two). u .first) take ∙ first-with (v i) (twoLeast farthest i (member set) v) ∙ ap (λ (u : Two). min (v i) (u .first)) skip))
+
+  -- all places are passed: what is found is the second nearest, where the one that is known is the nearest
+  pub least-all : (first : ℕ) (list : List ℕ) (count : ℕ) → list ≡ membersOf set .list → count ≡ membersOf set .count → m ≤ 32 → set < 2 ^ m
+      → first ≡ nearTwo m service set j .first → leastBelow first (passed list count) ≡ nearTwo m service set j .second
+  unfolding nearTwo
+  least-all first list count list-is count-is few small first-is =
+      ap (λ (t : Two). t .first) (passed-all (others first) list count list-is count-is few small)
+      ∙ rw first-is (packed-second farthest m (member set) (entry m service j) few)
 
   pub near-in-order : InOrder (nearOf (nearTwo m service set j))
   unfolding nearTwo
@@ -141,7 +177,48 @@ module _ (m : ℕ) (service : List ℕ) (set next came went j : ℕ) (few : m �
       ∙ went-out (plus S came) (λ l. or-right (eqb came went) (S went) (moved .goes l)) (rw (← came-in) at stays)
       ∙ came-in
 
-  -- the same, with what calls answer
+  -- the nearer of the two that does not name `went` is the nearest that is left
+  first-left : (T : ℕ → Bool) → (went < m → T went ≡ true)
+      → twoLeast farthest m (minus T went) v .first
+      ≡ cond (eqb (twoLeast farthest m T v .first % 32) went) (twoLeast farthest m T v .second) (twoLeast farthest m T v .first)
+  first-left T is-in =
+      elim (decLt went m) [
+        | yes l ↦ packed-first-without farthest m went T (entry m service j) few l (is-in l)
+        | no g ↦
+            ap (λ (t : Two). t .first)
+            (two-cong farthest m (minus T went) T v (λ k l. ap (λ (b : Bool). not b && T k) (ne-eqb went k (λ q. omega arith))))
+            ∙ go g (eqb (x % 32) went) (test (x % 32) went)
+      ]
+    where
+      x : ℕ
+      x = twoLeast farthest m T v .first
+
+      y : ℕ
+      y = twoLeast farthest m T v .second
+
+      -- only what stands for a missing one can name a number that is no facility, and then the second is missing too
+      go : ¬ (went < m) → (b : Bool) → Eq? (x % 32) went b → x ≡ cond b y x
+      go g false (diff d) = refl
+      go g true (same e) =
+          elim (first-attained farthest m T v) [
+            | inl none ↦ omega (arith, none, two-ordered farthest m T v, two-below farthest m T v)
+            | inr r ↦
+                let named : x % 32 ≡ r .0 = ap (λ (z : ℕ). z % 32) (r .3) ∙ packed-facility (entry m service j) (r .0) (omega (arith, r .1)) in
+                absurd (omega (arith, named, e, r .1, g))
+          ]
+
+  -- so it is the nearest after the move, with what calls answer
+  pub first-after : (near kept : Near) (arrived first : ℕ) → near ≡ nearOf (nearTwo m service set j) → arrived ≡ arrivalAt m service came j
+      → kept ≡ nearOf (insert arrived (twoOf near)) → first ≡ cond (eqb (kept .first % 32) went) (kept .second) (kept .first)
+      → first ≡ nearTwo m service next j .first
+  unfolding nearTwo
+  first-after near kept arrived first near-is arrived-is kept-is first-is =
+      let e : kept ≡ nearOf (twoLeast farthest m (plus S came) v) = kept-is ∙ rw (near-is, arrived-is, came-in) in
+      let left = first-left (plus S came) (λ l. or-right (eqb came went) (S went) (moved .goes l)) in
+      let same = two-cong farthest m (member next) (minus (plus S came) went) v (moved .after) in
+      first-is ∙ rw e (sym (ap (λ (t : Two). t .first) same ∙ left))
+
+  -- where neither went, with what calls answer
   pub near-with : (near kept : Near) (arrived : ℕ) → near ≡ nearOf (nearTwo m service set j) → arrived ≡ arrivalAt m service came j
       → kept ≡ nearOf (insert arrived (twoOf near)) → goesTo kept went ≡ false → kept ≡ nearOf (nearTwo m service next j)
   near-with near kept arrived near-is arrived-is kept-is stays =

@@ -1,6 +1,8 @@
 // A client's two nearest facilities: among those of a set, and after a move.
 ghost use mathlib.Core.Path.{_≡_};
-ghost use Prim.Native.Nat.{_^_, _<_};
+ghost use Prim.Native.Nat.{_%_, _^_, _<_, min};
+ghost use mathlib.Core.Bool.{cond};
+ghost use lib.Dec.{eqb};
 ghost use Rattle.model.specs.TwoLeast.{insert, packed};
 ghost use Rattle.sets.specs.Members.{membersOf};
 ghost use Rattle.search.specs.Prices.{Rows, entry, nearTwo, twoOf, nearOf, newAt, newIn, arrivalAt, goesTo};
@@ -119,7 +121,57 @@ pub(crate) fn newcomer(before: u32, after: u32) -> usize
     MOST_FACILITIES
 }
 
-// Client j's two nearest after a move, from those before it: counted again only where one of them went.
+// x, which counts as missing where it is the first.
+fn other_than(first: u32, x: u32) -> u32
+    ensures { λ r. ⌜ r ≡ cond (eqb x first) 32000031 x ⌝ }
+{
+    if x == first { FARTHEST } else { x }
+}
+
+fn lesser(x: u32, y: u32) -> u32
+    ensures { λ r. ⌜ r ≡ min x y ⌝ }
+{
+    if x < y { x } else { y }
+}
+
+// The second nearest of the set's facilities, which are listed, where the nearest is known.
+fn second_of(
+    service: &[u32],
+    m: usize,
+    n: usize,
+    j: usize,
+    set: u32,
+    first: u32,
+    list: &[u8],
+    count: usize,
+) -> u32
+    requires { ⌜ Rows m n (now service) × (j < n) × (set < 2 ^ m) × (now list ≡ membersOf set .list) × (count ≡ membersOf set .count) × (first ≡ nearTwo m (now service) set j .first) ⌝ }
+    ensures { λ r. ⌜ r ≡ nearTwo m (now (service .entry)) set j .second ⌝ }
+{
+    let mut least = FARTHEST;
+    let mut t = 0;
+    while t < count {
+        least = lesser(
+            other_than(first, packed_at(service, m, n, j, list[t] as usize)),
+            least,
+        );
+        t += 1;
+    }
+    least
+}
+
+// The nearer of the two that is left where facility o goes.
+fn first_without(near: Near, o: usize) -> u32
+    ensures { λ r. ⌜ r ≡ cond (eqb (near .first % 32) o) (near .second) (near .first) ⌝ }
+{
+    if (near.first % 32) as usize == o {
+        near.second
+    } else {
+        near.first
+    }
+}
+
+// Client j's two nearest after a move, from those before it: where one of them went, the other is the nearest and only the second is sought.
 pub(crate) fn near_after(
     service: &[u32],
     m: usize,
@@ -139,7 +191,11 @@ pub(crate) fn near_after(
 {
     let with_arrival = inserted(arrived, near);
     if goes_to(with_arrival, went) {
-        return near_of(service, m, n, j, next, list, count);
+        let first = first_without(with_arrival, went);
+        return Near {
+            first,
+            second: second_of(service, m, n, j, next, first, list, count),
+        };
     }
     with_arrival
 }

@@ -1,6 +1,7 @@
--- `near::near_after` meets its contract: where neither of the two went, only the one that came can change them.
+-- `near::near_after` meets its contract: where neither of the two went, only the one that came can change them; else the one that is left
+-- is the nearest.
 use mathlib.Core.Path.{sym, _∙_}
-use Rattle.search.proofs.NearLaws.{near-with}
+use Rattle.search.proofs.NearLaws.{near-with, first-after}
 use borrow.Author.Needs.{needs}
 use Rattle.search.proofs.near.near_after.Statement.{statement}
 use Rattle.search.proofs.near.near_after.Tie as tie
@@ -11,11 +12,24 @@ inserted-requires c κs = search needs
 goes-to-requires : tie.Need-goes-to-requires
 goes-to-requires c κs = search needs
 
-near-of-requires : tie.Need-near-of-requires
-near-of-requires c κs = search needs
+first-without-requires : tie.Need-first-without-requires
+first-without-requires c κs = search needs
+
+second-of-requires : tie.Need-second-of-requires
+second-of-requires c κs = let p = c .before .before .before .before .before .before .pre in
+    let first-is =
+    first-after _ _ _ _ _ _ _ (p .rows .few-facilities) (p .moved) _ _ _ _ (p .near-is) (p .arrived-is)
+    (c .before .before .before .inserted .ensures) (c .first-without .ensures)
+    in
+    (p .rows, p .client, p .next-small, p .list-is, p .count-is, first-is)
 
 returns : tie.Need-returns
-returns c = search needs
+returns c = let p = c .before .before .before .before .before .before .before .pre in
+    let first-is =
+    first-after _ _ _ _ _ _ _ (p .rows .few-facilities) (p .moved) _ _ _ _ (p .near-is) (p .arrived-is)
+    (c .before .before .before .before .inserted .ensures) (c .before .first-without .ensures)
+    in
+    rw (first-is, c .second-of .ensures)
 
 returns-2 : tie.Need-returns-2
 returns-2 c = let s = c .before .before .before .before .before in
@@ -26,4 +40,4 @@ returns-2 c = let s = c .before .before .before .before .before in
 
 pub near-after-spec : {M : Type 1} → statement M
 near-after-spec =
-    tie.close (tie.spec inserted-requires goes-to-requires near-of-requires returns returns-2)
+    tie.close (tie.spec inserted-requires goes-to-requires first-without-requires second-of-requires returns returns-2)
