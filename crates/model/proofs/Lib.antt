@@ -8,6 +8,7 @@ pub mod ListingLaws
 pub mod LeastLaws
 pub mod GapLaws
 pub mod TwoLeastLaws
+pub mod PackedLaws
 pub mod CostLaws
 pub mod NearestChangeLaws
 pub mod SetLaws

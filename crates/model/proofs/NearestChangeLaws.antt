@@ -12,7 +12,8 @@ use Rattle.model.specs.Sets.{plus, minus, trade}
 use Rattle.model.specs.Instance.{Instance, nearest}
 use Rattle.model.proofs.TestSetLaws.{plus-new}
 use Rattle.model.proofs.LeastLaws.{any-of}
-use Rattle.model.proofs.TwoLeastLaws.{first-with, first-least, two-with, packed-divides, packed-first-without}
+use Rattle.model.proofs.TwoLeastLaws.{first-with, first-least, two-with}
+use Rattle.model.proofs.PackedLaws.{packed-divides, packed-first-without}
 
 min-divided : (x y : ℕ) → min x y / 32 ≡ min (x / 32) (y / 32)
 min-divided x y = omega arith

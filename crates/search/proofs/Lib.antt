@@ -8,6 +8,7 @@ pub mod KeptLaws
 pub mod StoredLaws
 pub mod KeptChangeLaws
 pub mod NearLaws
+pub mod MovedLaws
 pub mod PriceLaws
 pub mod AloneLaws
 pub mod ClientLaws

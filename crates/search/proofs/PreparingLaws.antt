@@ -15,7 +15,7 @@ use Rattle.model.specs.TwoLeast.{packed}
 use Rattle.model.specs.Neighbours.{swaps, addDropSwap}
 use Rattle.model.specs.Plans.{openCost, openStart, openSearch, limitedCost, limitedStart, limitedSearch}
 use Rattle.model.proofs.LeastLaws.{any-counted, arg-least, arg-values, least-at, least-values}
-use Rattle.model.proofs.TwoLeastLaws.{packed-divides, packed-facility, packed-first}
+use Rattle.model.proofs.PackedLaws.{packed-divides, packed-facility, packed-first}
 use Rattle.model.proofs.PlanLaws.{open-start, limited-start, same-start}
 use Rattle.sheet.specs.Sheet.{haul, instanceBy}
 use Rattle.sheet.specs.Shape.{Shape}

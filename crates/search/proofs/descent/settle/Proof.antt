@@ -10,7 +10,7 @@ use Rattle.search.specs.Settling.{neighboursBy}
 use Rattle.search.specs.Standing.{Standing}
 use Rattle.search.proofs.TableLaws.{tables-of}
 use Rattle.search.proofs.MoveLaws.{prices}
-use Rattle.search.proofs.NearLaws.{moved-is}
+use Rattle.search.proofs.MovedLaws.{moved-is}
 use Rattle.search.proofs.PriceLaws.{cost-now, cost-few}
 use Rattle.search.proofs.DescentLaws.{Going, going-starts, going-on, going-ends, step-move}
 use Rattle.search.proofs.descent.settle.Statement.{statement}

@@ -7,7 +7,7 @@ use mathlib.Core.Bool.{not}
 use Rattle.model.specs.Loops.{leading}
 use Rattle.model.proofs.LoopLaws.{leading-none, leading-more, leading-stops}
 use Rattle.search.specs.Prices.{newIn}
-use Rattle.search.proofs.NearLaws.{old}
+use Rattle.search.proofs.MovedLaws.{old}
 use Rattle.search.proofs.near.newcomer.Statement.{statement}
 use Rattle.search.proofs.near.newcomer.Tie as tie
 
