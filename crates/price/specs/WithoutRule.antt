@@ -1,4 +1,4 @@
--- Pricing on a sheet that questions 1 to 5 pass: question 6 is not asked.
+-- Pricing on a sheet that questions 1 to 5 pass, for the benchmark: question 6 is not asked.
 use Prim.Native.Nat.{ℕ}
 use mathlib.Core.List.{List}
 use Rattle.model.specs.Sets.{member}
