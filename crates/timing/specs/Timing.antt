@@ -1,11 +1,8 @@
--- What the calls of the benchmark give: document 01's calls without question 6.
+-- The numbers that the calls of the benchmark give.
 use Prim.Native.Nat.{ℕ, _+_, _*_, _%_, _^_}
-use mathlib.Core.List.{List}
-use Rattle.sheet.specs.Answers.{Answer, accepted, refused, ask, after}
+use Rattle.sheet.specs.Answers.{Answer, accepted, refused}
 use Rattle.sheet.specs.Reading.{Counts}
-use Rattle.sheet.specs.OnePass.{formAndAmounts}
-use Rattle.price.specs.Plan.{planFits, writing}
-use Rattle.price.specs.Pricing.{Result, Plan, question8}
+use Rattle.price.specs.Pricing.{Result}
 
 -- Reading: from bit 8 the yards, from bit 16 the farms. A refused call gives its number alone.
 abbrev pub countsNumber : Answer Counts → ℕ
@@ -16,13 +13,3 @@ countsNumber (refused k) = k
 abbrev pub resultNumber : Answer Result → ℕ
 resultNumber (accepted r) = r .bytes % 2 ^ 24 * 2 ^ 8 + r .moves * 2 ^ 32
 resultNumber (refused k) = k
-
--- question 9, and the plan of a set on a sheet of these counts
-unfoldable pub written : List ℕ → Counts → ℕ → ℕ → ℕ → ℕ → Answer Plan
-written s c set total moves room =
-    ask (planFits (c .yards) (c .farms) room) 9
-    (accepted record { bytes = writing s (c .yards) (c .farms) set total moves room; moves = moves })
-
--- pricing asks 1 to 5, 8 and 9; the total in the record is 0
-unfoldable pub pricing : List ℕ → ℕ → ℕ → Answer Plan
-pricing s set room = after (formAndAmounts s) (λ c. ask (question8 (c .yards) set) 8 (written s c set 0 0 room))

@@ -3,13 +3,12 @@
 // Without question 6 nothing is promised of a plan against rivals. Each call gives one number, made as those of `exports` are: bits
 // 0 to 7 the refusal number, 0 where the call is accepted, and above them what the call returns. Every call is total.
 ghost use mathlib.Core.Path.{_≡_};
-ghost use Prim.Native.Nat.{_≤_};
 ghost use lib.ListN.{length};
-ghost use Rattle.sheet.specs.Reading.{counts};
 ghost use Rattle.sheet.specs.OnePass.{formAndAmounts};
-ghost use Rattle.price.specs.Pricing.{meaning, answer, areaAfter, question8};
+ghost use Rattle.price.specs.Pricing.{meaning, answer, areaAfter};
+ghost use Rattle.price.specs.WithoutRule.{pricingWithoutRule};
 ghost use Rattle.search.specs.WithoutRule.{openPlanningWithoutRule, limitedPlanningWithoutRule};
-ghost use Rattle.timing.specs.Timing.{countsNumber, resultNumber, written, pricing};
+ghost use Rattle.timing.specs.Timing.{countsNumber, resultNumber};
 use price::Planned;
 use sheet::Reading;
 
@@ -33,22 +32,14 @@ pub extern "C" fn timing_read(sheet: &[u8]) -> u64
     }
 }
 
-// Asks questions 1 to 5, 8 and 9 and writes the plan of the set, with a total of 0: the writer sums the costs, as in pricing, but
-// the sum is not put in the record. Bits 8 to 31: the bytes written; bits 32 to 63: the moves.
+// Asks questions 1 to 5, 8 and 9 and writes the plan of the set. Bits 8 to 31: the bytes written; bits 32 to 63: the moves.
 #[no_mangle]
 pub extern "C" fn timing_price(sheet: &[u8], set: u32, area: &mut [u8]) -> u64
-    ensures answer { λ r. ⌜ r ≡ resultNumber (answer (pricing (now (sheet .entry)) set (length (now (area .entry))))) ⌝ }
-    ensures area { λ r. ⌜ now (area .exit) ≡ areaAfter (pricing (now (sheet .entry)) set (length (now (area .entry)))) (now (area .entry)) ⌝ }
+    ensures answer { λ r. ⌜ r ≡ resultNumber (answer (pricingWithoutRule (now (sheet .entry)) set (length (now (area .entry))))) ⌝ }
+    ensures area { λ r. ⌜ now (area .exit) ≡ areaAfter (pricingWithoutRule (now (sheet .entry)) set (length (now (area .entry)))) (now (area .entry)) ⌝ }
 {
-    match sheet::form_and_amounts_of(sheet) {
-        Reading::Accepted { yards, farms } => {
-            if !set_good(yards, set) {
-                return 8;
-            }
-            write(sheet, yards, farms, set, 0, 0, area)
-        }
-        Reading::Refused(number) => number as u64,
-    }
+    let priced = price::price_without_rule(sheet, set, area);
+    number(priced)
 }
 
 // Asks questions 1 to 5 and 9 and writes the open plan; the number as for pricing.
@@ -80,32 +71,4 @@ fn number(planned: Planned) -> u64
             + (moves as u64) * BIT_32,
         Planned::Refused(refusal) => refusal as u64,
     }
-}
-
-// Asks question 9 and writes the plan of a set.
-fn write(
-    sheet: &[u8],
-    yards: usize,
-    farms: usize,
-    set: u32,
-    total: u32,
-    moves: u32,
-    area: &mut [u8],
-) -> u64
-    ensures answer { λ r. ⌜ r ≡ resultNumber (answer (written (now (sheet .entry)) (counts yards farms) set total moves (length (now (area .entry))))) ⌝ }
-    ensures area { λ r. ⌜ now (area .exit) ≡ areaAfter (written (now (sheet .entry)) (counts yards farms) set total moves (length (now (area .entry)))) (now (area .entry)) ⌝ }
-{
-    if !price::plan_fits(yards, farms, area.len()) {
-        return 9;
-    }
-    let bytes = price::write_plan(sheet, yards, farms, set, total, moves, area);
-    number(Planned::Written { bytes, moves })
-}
-
-// Question 8, of a sheet of m yards.
-fn set_good(m: usize, set: u32) -> bool
-    requires { ⌜ m ≤ 32 ⌝ }
-    ensures { λ r. ⌜ r ≡ question8 m set ⌝ }
-{
-    1 <= set && (set as u64) < 1u64 << (m as u64)
 }

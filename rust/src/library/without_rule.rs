@@ -1,6 +1,5 @@
 //! The same calls without question 6, for the benchmark and its comparison alone: `rt staticlib timing` gives them.
 use super::{counted, written};
-use crate::format::{amount, RECORD};
 use crate::{Answer, Counts, Written};
 
 /// What the calls take and give is as in `planner.h`, so every call below is sound for the same reasons.
@@ -19,13 +18,9 @@ pub fn read(sheet: &[u8]) -> Answer<Counts> {
     counted(unsafe { raw::timing_read(sheet.as_ptr(), sheet.len()) })
 }
 
-/// Asks questions 1 to 5, 8 and 9. The library's call leaves the total 0; it is summed here, so that the time has it too.
+/// Asks questions 1 to 5, 8 and 9.
 pub fn price(sheet: &[u8], set: u32, area: &mut [u8]) -> Answer<Written> {
-    let plan = written(unsafe { raw::timing_price(sheet.as_ptr(), sheet.len(), set, area.as_mut_ptr(), area.len()) })?;
-    let (body, end) = area[..plan.bytes].split_at_mut(plan.bytes - 2 * RECORD);
-    let total: u32 = body.chunks_exact(RECORD).map(amount).sum();
-    end[4..8].copy_from_slice(&total.to_le_bytes());
-    Ok(plan)
+    written(unsafe { raw::timing_price(sheet.as_ptr(), sheet.len(), set, area.as_mut_ptr(), area.len()) })
 }
 
 /// Asks questions 1 to 5 and 9.

@@ -1,2 +1,0 @@
--- TimingLaws: the cases of the calls, and that the bytes written keep to their bits.
-pub mod TimingLaws
