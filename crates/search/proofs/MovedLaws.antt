@@ -10,7 +10,7 @@ use borrow.Author.Tests.{ne-eqb, eqb-true}
 use lib.Dec.{eqb}
 use Rattle.model.specs.Loops.{leading}
 use Rattle.model.specs.Sets.{member}
-use Rattle.model.proofs.Bools.{clash, fails, eqb-self, Eq?, same, diff, test, more}
+use Rattle.model.proofs.Bools.{clash, fails, eqb-self, Eq?, same, diff, test}
 use Rattle.model.proofs.LoopLaws.{leading-none, leading-more, leading-stops}
 use Rattle.model.proofs.SetLaws.{member-with, member-without, member-trade}
 use Rattle.model.proofs.NeighbourLaws.{Move, added, dropped, swapped}

@@ -1,7 +1,7 @@
 -- The cases of the two plans: each refusal, and the plan that the search reaches.
 use Prim.Native.Nat.{ℕ, _^_, _≤_, _<_}
 use native.Mathlib.Omega.{arith}
-use mathlib.Core.Path.{_≡_, refl, sym, ap, subst, _∙_}
+use mathlib.Core.Path.{_≡_, refl, sym, ap, _∙_}
 use mathlib.Core.Bool.{Bool, true, false, and-false}
 use mathlib.Core.List.{List}
 use borrow.Author.Tests.{le-leb, lt-leb, leb-true}
@@ -24,8 +24,7 @@ use Rattle.sheet.proofs.AcceptedLaws.{shape-of, instance-is, accepts, passes-fi
 use Rattle.sheet.proofs.CostBounds.{total-fits, service-fits}
 use Rattle.price.specs.Plan.{question9}
 use Rattle.price.specs.Known.{Known, writingBy}
-use Rattle.price.specs.Pricing.{Plan, result, meaning, answer, areaAfter}
-use Rattle.price.specs.declared.Planned.{Planned}
+use Rattle.price.specs.Pricing.{Plan, result, answer, areaAfter}
 use Rattle.price.proofs.PricingLaws.{makes, writes-of}
 use Rattle.price.proofs.KnownLaws.{known-plan}
 use Rattle.search.specs.declared.descent.Settled.{Settled}
@@ -157,11 +156,6 @@ module _ (s : List ℕ) (r : Reading) (room : ℕ) where
   pub limited-after-five : (k : ℕ) → readingMeaning r ≡ formAndAmounts s → planningAfter r Swap s k room ≡ limitedPlanningWithoutRule s k room
   unfolding planningAfter limitedPlanningWithoutRule limitedPlan endBy
   limited-after-five k e = rw e
-
--- what a call answers and leaves, by another name for its outcome
-pub as-outcome : {outcome other : Answer Plan} → other ≡ outcome → (r : Planned) (area next : List ℕ)
-    → (meaning r ≡ answer other) × (next ≡ areaAfter other area) → (meaning r ≡ answer outcome) × (next ≡ areaAfter outcome area)
-as-outcome e r area next h = subst (λ o. (meaning r ≡ answer o) × (next ≡ areaAfter o area)) e h
 
 -- ---- and back: where a plan is made, the sheet was accepted and the questions were answered yes
 

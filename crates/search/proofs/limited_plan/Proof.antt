@@ -1,5 +1,6 @@
 -- `limited_plan` meets its contract: what follows reading gives `limitedPlanning`, and what is promised follows from its two equations.
-use Rattle.search.proofs.PlanningLaws.{read-as, limited-after, as-outcome}
+use Rattle.price.proofs.PricingLaws.{as-outcome}
+use Rattle.search.proofs.PlanningLaws.{read-as, limited-after}
 use Rattle.search.proofs.PromiseLaws.{limited-promises}
 use borrow.Author.Needs.{needs}
 use Rattle.search.proofs.limited_plan.Statement.{statement}

@@ -1,5 +1,6 @@
 -- `limited_plan_without_rule` meets its contract: what follows reading gives `limitedPlanningWithoutRule`.
-use Rattle.search.proofs.PlanningLaws.{read-as-five, limited-after-five, as-outcome}
+use Rattle.price.proofs.PricingLaws.{as-outcome}
+use Rattle.search.proofs.PlanningLaws.{read-as-five, limited-after-five}
 use borrow.Author.Needs.{needs}
 use Rattle.search.proofs.limited_plan_without_rule.Statement.{statement}
 use Rattle.search.proofs.limited_plan_without_rule.Tie as tie

@@ -1,5 +1,6 @@
 -- `open_plan` meets its contract: what follows reading gives `openPlanning`, and what is promised follows from its two equations.
-use Rattle.search.proofs.PlanningLaws.{read-as, open-after, as-outcome}
+use Rattle.price.proofs.PricingLaws.{as-outcome}
+use Rattle.search.proofs.PlanningLaws.{read-as, open-after}
 use Rattle.search.proofs.PromiseLaws.{open-promises}
 use borrow.Author.Needs.{needs}
 use Rattle.search.proofs.open_plan.Statement.{statement}

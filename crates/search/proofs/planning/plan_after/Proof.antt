@@ -3,8 +3,8 @@ use mathlib.Core.Path.{sym, ap, _∙_}
 use Rattle.model.proofs.Bools.{said-no, said-yes}
 use Rattle.sheet.specs.Reading.{meaning}
 use Rattle.price.proofs.PlanLaws.{fits-within}
-use Rattle.price.proofs.PricingLaws.{refuses}
-use Rattle.search.proofs.PlanningLaws.{too-few, too-many, k-good, after-refusal, after-bad-k, after-no-room, after-planned, as-outcome}
+use Rattle.price.proofs.PricingLaws.{refuses, as-outcome}
+use Rattle.search.proofs.PlanningLaws.{too-few, too-many, k-good, after-refusal, after-bad-k, after-no-room, after-planned}
 use borrow.Author.Needs.{needs}
 use Rattle.search.proofs.planning.plan_after.Statement.{statement}
 use Rattle.search.proofs.planning.plan_after.Tie as tie

@@ -1,10 +1,10 @@
 -- `planning::plan_by` meets its contract: its tables are large enough, and blank; what is written is the plan of where the search ends.
+use Rattle.price.proofs.PricingLaws.{as-outcome}
 use mathlib.Core.Path.{ap}
 use Rattle.sheet.specs.Answers.{accepted}
 use Rattle.sheet.specs.Sheet.{instanceBy}
 use Rattle.search.specs.Settling.{planOf}
 use Rattle.search.proofs.TableLaws.{blank}
-use Rattle.search.proofs.PlanningLaws.{as-outcome}
 use borrow.Author.Needs.{needs}
 use Rattle.search.proofs.planning.plan_by.Statement.{statement}
 use Rattle.search.proofs.planning.plan_by.Tie as tie
