@@ -129,7 +129,7 @@ fn medium(random: &mut Random) -> Sample {
     free(random, yards, farms)
 }
 
-/// Every answer occurred often enough, and so did moves and drops on sheets that question 6 refuses.
+/// Every answer occurred often enough, and so did moves, sheets that question 6 refuses, and open plans that drop a yard.
 fn enough(tally: &Tally, seen: &Seen) {
     assert!(tally.calls() >= LEAST_CALLS, "{} calls", tally.calls());
     for (name, answers) in ANSWERS {
