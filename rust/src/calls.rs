@@ -36,32 +36,6 @@ pub const FAST: Calls = Calls {
 
 pub const ALL: [Calls; 3] = [LIBRARY, LITERAL, FAST];
 
-/// The same without question 6, in the same order.
-#[cfg(feature = "timing")]
-pub const WITHOUT_RULE: [Calls; 3] = [
-    Calls {
-        name: LIBRARY.name,
-        read: library::without_rule::read,
-        price: library::without_rule::price,
-        open_plan: library::without_rule::open_plan,
-        limited_plan: library::without_rule::limited_plan,
-    },
-    Calls {
-        name: LITERAL.name,
-        read: literal::without_rule::read,
-        price: literal::without_rule::price,
-        open_plan: literal::without_rule::open_plan,
-        limited_plan: literal::without_rule::limited_plan,
-    },
-    Calls {
-        name: FAST.name,
-        read: fast::without_rule::read,
-        price: fast::without_rule::price,
-        open_plan: fast::without_rule::open_plan,
-        limited_plan: fast::without_rule::limited_plan,
-    },
-];
-
 /// A call that is lent an area for a plan.
 #[derive(Clone, Copy, Debug)]
 pub enum PlanCall {

@@ -9,71 +9,51 @@ mod prices;
 mod rule;
 mod search;
 mod sheet;
-pub mod without_rule;
 
 use crate::format::least_area;
 use crate::{Answer, Counts, Written};
-pub use search::{limited_plan_of, open_plan_of};
-pub use sheet::Hauls;
+use search::{limited_plan_of, open_plan_of};
+use sheet::Hauls;
 
 /// The counts of yards and farms, or the number of the first question of 1 to 6 that is answered no.
 pub fn read(sheet: &[u8]) -> Answer<Counts> {
     let mut hauls = Hauls::none();
     hauls.read(sheet)?;
-    Ok(counts_of(&hauls))
-}
-
-fn counts_of(hauls: &Hauls) -> Counts {
-    Counts { yards: hauls.yards, farms: hauls.farms }
+    Ok(Counts { yards: hauls.yards, farms: hauls.farms })
 }
 
 /// Prices a set of yards, of which bit i marks yard i, and writes its plan to the front of the area.
 pub fn price(sheet: &[u8], set: u32, area: &mut [u8]) -> Answer<Written> {
     let mut hauls = Hauls::none();
     hauls.read(sheet)?;
-    ask_and_price(&hauls, set, area)
-}
-
-/// Asks questions 8 and 9 first.
-fn ask_and_price(hauls: &Hauls, set: u32, area: &mut [u8]) -> Answer<Written> {
     if set == 0 || u64::from(set) >> hauls.yards != 0 {
         return Err(8);
     }
-    large_enough(area, hauls)?;
-    Ok(price_of(hauls, set, area))
+    large_enough(area, &hauls)?;
+    Ok(price_of(&hauls, set, area))
 }
 
 /// Writes the open plan to the front of the area.
 pub fn open_plan(sheet: &[u8], area: &mut [u8]) -> Answer<Written> {
     let mut hauls = Hauls::none();
     hauls.read(sheet)?;
-    ask_and_plan(&hauls, area)
-}
-
-/// Asks question 9 first.
-fn ask_and_plan(hauls: &Hauls, area: &mut [u8]) -> Answer<Written> {
-    large_enough(area, hauls)?;
-    Ok(open_plan_of(hauls, area))
+    large_enough(area, &hauls)?;
+    Ok(open_plan_of(&hauls, area))
 }
 
 /// Writes the limited plan for k yards to the front of the area.
 pub fn limited_plan(sheet: &[u8], k: usize, area: &mut [u8]) -> Answer<Written> {
     let mut hauls = Hauls::none();
     hauls.read(sheet)?;
-    ask_and_plan_limited(&hauls, k, area)
-}
-
-/// Asks questions 7 and 9 first.
-fn ask_and_plan_limited(hauls: &Hauls, k: usize, area: &mut [u8]) -> Answer<Written> {
     if k < 1 || k > hauls.yards {
         return Err(7);
     }
-    large_enough(area, hauls)?;
-    Ok(limited_plan_of(hauls, k, area))
+    large_enough(area, &hauls)?;
+    Ok(limited_plan_of(&hauls, k, area))
 }
 
 /// Prices a set that question 8 accepts, in an area that question 9 accepts.
-pub fn price_of(hauls: &Hauls, set: u32, area: &mut [u8]) -> Written {
+fn price_of(hauls: &Hauls, set: u32, area: &mut [u8]) -> Written {
     let yards = near::Yards::of(set);
     let served = hauls.rows_by_four().iter().flat_map(|rows| near::nearest_of_four(rows, &yards));
     area::write(hauls, &yards, served, &hauls.fees, 0, area)

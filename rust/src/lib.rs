@@ -1,12 +1,13 @@
 //! The yard planner for Rust (`library`), and what it is held against: the whole of document 01 a second time (`literal`), the
-//! same as fast as plain Rust makes it (`fast`), all three side by side (`calls`), and sheets of every kind (`samples`).
-//! `without_rule` of each of the three has its calls without question 6, for the benchmark.
+//! same as fast as plain Rust makes it (`fast`), all three side by side (`calls`), question 6 alone by its four loops
+//! (`four_loops`), and sheets of every kind (`samples`).
 //! `csv` and `words` are the tool `sheet`. `format`, `table` and `random` serve the others: the format's constants, a sheet as a
 //! table, seeded numbers.
 pub mod calls;
 pub mod csv;
 pub mod fast;
 pub mod format;
+pub mod four_loops;
 pub mod library;
 pub mod literal;
 pub mod random;

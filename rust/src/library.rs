@@ -2,9 +2,6 @@
 //!
 //! Every call takes any bytes, any set, any count and any area. A refused call gives document 01's number and leaves the area as
 //! it was.
-#[cfg(feature = "timing")]
-pub mod without_rule;
-
 use crate::{Answer, Counts, Written};
 
 /// Each takes a slice as its pointer and its length. A slice of Rust is what `planner.h` asks of the two, and an area lent as

@@ -4,12 +4,17 @@
 mod compare;
 
 use compare::{every_call, Name, Tally};
+use planner::format::{amount, HIGHEST_FEE, RECORD, YARD};
 use planner::literal::{open_moves, Move};
 use planner::random::Random;
-use planner::samples::{kept, kept_moves, manhattan, plane};
+use planner::samples::{kept, kept_moves, manhattan, plane, Sample};
 use planner::table::Table;
 
 const KEPT: usize = 13;
+/// Of each kept sheet with fees a little changed, which question 6 does not look at.
+const OTHER_FEES: u64 = 12;
+/// At least so many of them drop a yard too.
+const LEAST_DROPS: u64 = 60;
 /// Sheets that one run of the search looks at.
 const TRIES: u64 = 300_000;
 
@@ -26,6 +31,37 @@ fn kept_sheets_drop_a_yard_and_agree() {
     }
     tally.print();
     assert_eq!(tally.count(Name::Read, 0), sheets.len() as u64, "kept sheets that are accepted");
+}
+
+#[test]
+fn kept_sheets_with_other_fees_agree() {
+    let mut tally = Tally::default();
+    let mut dropping = 0;
+    for (number, sample) in (0..).zip(kept().expect("sheets/drops")) {
+        for seed in number * OTHER_FEES..(number + 1) * OTHER_FEES {
+            let changed = with_other_fees(&mut Random::new(seed), &sample);
+            every_call(&changed, seed, &mut tally);
+            dropping += u64::from(drops(&open_moves(&changed.sheet)) > 0);
+        }
+    }
+    tally.print();
+    println!("{dropping} open plans that drop a yard");
+    assert_eq!(tally.count(Name::Read, 0), KEPT as u64 * OTHER_FEES, "sheets that are accepted");
+    assert!(dropping >= LEAST_DROPS, "{dropping} open plans that drop a yard");
+}
+
+/// One to three fees up or down by a twentieth or less.
+fn with_other_fees(random: &mut Random, kept: &Sample) -> Sample {
+    let mut sheet = kept.sheet.clone();
+    let yards = sheet.chunks(RECORD).take_while(|record| record[0] == YARD).count() as u64;
+    for _ in 0..random.between(1, 3) {
+        let at = RECORD * random.between(0, yards - 1) as usize;
+        let fee = amount(&sheet[at..at + RECORD]);
+        let (low, high) = (fee - fee / 20, (fee + fee / 20 + 1).min(HIGHEST_FEE));
+        let changed = random.between(low.into(), high.into()) as u32;
+        sheet[at + 4..at + RECORD].copy_from_slice(&changed.to_le_bytes());
+    }
+    Sample { name: format!("{} with other fees", kept.name), sheet, reading: None }
 }
 
 /// The moves as the file beside a kept sheet has them.

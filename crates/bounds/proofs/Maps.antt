@@ -3,12 +3,14 @@
 -- its facility in F does.
 use Prim.Native.Nat.{ℕ, _+_, _*_, _≤_, _<_}
 use native.Mathlib.Omega.{arith}
-use mathlib.Core.Path.{_≡_, refl}
+use mathlib.Core.Path.{_≡_}
 use mathlib.Core.Bool.{Bool, true}
-use Rattle.model.specs.Least.{any, least, arg}
+use Rattle.model.specs.Least.{any, arg}
 use Rattle.model.specs.Instance.{Instance, metric, assigned}
-use Rattle.model.proofs.LeastLaws.{Least, any-of, arg-least, least-at, least-le}
+use Rattle.model.specs.QuickMetric.{route}
+use Rattle.model.proofs.LeastLaws.{Least, arg-least}
 use Rattle.model.proofs.CostLaws.{metric-rule, assigned-least}
+use Rattle.model.proofs.QuickMetricLaws.{route-at, route-by}
 use Rattle.bounds.specs.Optimum.{Metric}
 
 pub metric-of : (I : Instance) → metric I ≡ true → Metric I
@@ -33,19 +35,16 @@ module _ (I : Instance) where
 
   -- the way from facility o to facility f by the client for which it is shortest
   pub dist : ℕ → ℕ → ℕ
-  dist o f = least n (λ p. true) (λ p. service o p + service f p)
+  dist o f = route n (service o) (service f)
 
   pub dist-le : (o f p : ℕ) → p < n → dist o f ≤ service o p + service f p
   unfolding dist
-  dist-le o f p l = least-le n p (λ p. true) (λ p. service o p + service f p) l refl
+  dist-le o f p l = route-at n (service o) (service f) p l
 
   -- where there is a client j, some client is on that way
   dist-by : (o f j : ℕ) → j < n → (p : ℕ) × (p < n) × (dist o f ≡ service o p + service f p)
   unfolding dist
-  dist-by o f j l =
-      let way : ℕ → ℕ = λ p. service o p + service f p in
-      let some = any-of n j (λ p. true) l refl in
-      (arg n (λ p. true) way, arg-least n (λ p. true) way some .below, least-at n (λ p. true) way some)
+  dist-by o f j l = route-by n (service o) (service f) j l
 
   -- from client j to either of two facilities by way of the other
   pub via-first : Metric I → (o f j : ℕ) → o < m → f < m → j < n → service o j ≤ dist o f + service f j

@@ -18,6 +18,10 @@ clash h k = absurd (true≢false (sym h ∙ k))
 pub fails : {b : Bool} → (b ≡ true → ⊥) → b ≡ false
 fails {b} f = cases b (λ e. absurd (f e)) (λ e. e)
 
+-- two tests that hold together are the same
+pub same-test : {a b : Bool} → (a ≡ true → b ≡ true) → (b ≡ true → a ≡ true) → a ≡ b
+same-test {a} {b} f g = cases a (λ e. e ∙ sym (f e)) (λ e. e ∙ sym (fails (λ k. clash (g k) e)))
+
 pub and-left : (a b : Bool) → a && b ≡ true → a ≡ true
 and-left true b h = refl
 and-left false b h = h

@@ -10,6 +10,7 @@ use Rattle.model.specs.Loops.{on, sum}
 use Rattle.model.specs.Least.{any, least}
 use Rattle.model.specs.Sets.{plus, minus, trade}
 use Rattle.model.specs.Instance.{Instance, fourPoint, fourPointQ, fourPointPQ, fourPointBPQ, metric, Breaks, nearest, assigned, openingCost, serviceCost, totalCost}
+use Rattle.model.proofs.Bools.{same-test}
 use Rattle.model.proofs.LoopLaws.{all-at, all-from, all-fails, all-stops}
 use Rattle.model.proofs.SumLaws.{sum-mono, sum-cong}
 use Rattle.model.proofs.CountLaws.{sum-plus, sum-minus}
@@ -132,6 +133,27 @@ module _ (I : Instance) where
     pub total-cong : totalCost I S ≡ totalCost I T
     unfolding totalCost
     total-cong = ap₂ _+_ opening-cong service-cong
+
+-- ---- instances that agree on service costs keep the four-point rule alike
+
+also-metric : (I J : Instance) → J .facilities ≤ I .facilities → J .clients ≤ I .clients
+    → ((a p : ℕ) → a < J .facilities → p < J .clients → I .service a p ≡ J .service a p) → metric I ≡ true → metric J ≡ true
+also-metric I J within-m within-n agree h =
+    rule-metric J (λ a b p q la lb lp lq. omega (
+      arith,
+      agree a q la lq,
+      agree a p la lp,
+      agree b p lb lp,
+      agree b q lb lq,
+      metric-rule I h a b p q (omega arith) (omega arith) (omega arith) (omega arith),
+    ))
+
+pub same-metric : (I J : Instance) → I .facilities ≡ J .facilities → I .clients ≡ J .clients
+    → ((a p : ℕ) → a < I .facilities → p < I .clients → I .service a p ≡ J .service a p) → metric I ≡ metric J
+same-metric I J same-m same-n agree =
+    same-test
+    (also-metric I J (omega arith) (omega arith) (λ a p la lp. agree a p (omega arith) (omega arith)))
+    (also-metric J I (omega arith) (omega arith) (λ a p la lp. sym (agree a p la lp)))
 
 -- ---- instances that agree on opening costs, and on service costs times weight, have the same costs
 

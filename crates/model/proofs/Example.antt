@@ -1,11 +1,12 @@
 -- The definitions computed on document 01's sheet S as an instance, so that a reader can see that they say what is meant.
 use Prim.Native.Nat.{ℕ, zero, suc}
 use mathlib.Core.Path.{_≡_, refl}
-use mathlib.Core.Bool.{true}
+use mathlib.Core.Bool.{true, false}
 use Rattle.model.specs.Loops.{allBelow, sum, join}
 use Rattle.model.specs.Least.{any, least, arg}
 use Rattle.model.specs.Sets.{member, with, without}
 use Rattle.model.specs.Instance.{Instance, metric, fourPointBPQ, fourPointPQ, fourPointQ, fourPoint, nearest, assigned, openingCost, serviceCost, totalCost}
+use Rattle.model.specs.QuickMetric.{greatest, route, spread, quickPair, quickMetric}
 use Rattle.model.specs.Neighbours.{addAt, adds, dropAt, drops, swapAt, swapsOut, swaps, addDropSwap}
 use Rattle.model.specs.Search.{reached, better, best, next, descend, search}
 use Rattle.model.specs.Plans.{openCost, openStart, openSearch, limitedCost, limitedStart, limitedSearch}
@@ -27,6 +28,14 @@ example = record { facilities = 3; clients = 3; opening = row 1 4 2; service = t
 pub example-metric : metric example ≡ true
 unfolding example metric fourPointBPQ fourPointPQ fourPointQ fourPoint allBelow
 example-metric = refl
+
+-- the quicker test on S, and on document 01's two yards: farm 0 at 1 and 1, farm 1 at 1 and 3 or at 1 and 4
+abbrev two-yards : ℕ → Instance
+two-yards x = record { facilities = 2; clients = 2; opening = row 0 0 0; service = λ i. row 1 (row 1 x 0 i) 0; weight = λ j. 1 }
+
+example-quick : (quickMetric example ≡ true) × (quickMetric (two-yards 3) ≡ true) × (quickMetric (two-yards 4) ≡ false)
+unfolding example quickMetric quickPair route spread greatest least any allBelow
+example-quick = (refl, refl, refl)
 
 -- client 1 is as near to 0 as to 2, and is assigned to 0
 example-tie : assigned example (member 5) 1 ≡ 0

@@ -1,4 +1,5 @@
 pub mod Bools
+pub mod SignedLaws
 pub mod LoopLaws
 pub mod PassingLaws
 pub mod SumLaws
@@ -10,6 +11,7 @@ pub mod GapLaws
 pub mod TwoLeastLaws
 pub mod PackedLaws
 pub mod CostLaws
+pub mod QuickMetricLaws
 pub mod NearestChangeLaws
 pub mod SetLaws
 pub mod NeighbourLaws

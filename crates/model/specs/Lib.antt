@@ -1,6 +1,6 @@
 -- Loops: what loops compute. Least: least members. Sets: sets of numbers. Instance: the problem and its costs.
 -- Neighbours: the moves of a search. Search: the search itself. Plans: the two searches of document 01.
--- TwoLeast: the two least values over a set. Passing: what a loop makes of a value.
+-- TwoLeast: the two least values over a set. Passing: what a loop makes of a value. QuickMetric: a quicker test of metric service costs.
 pub mod Loops
 pub mod Passing
 pub mod Least
@@ -10,3 +10,4 @@ pub mod Instance
 pub mod Neighbours
 pub mod Search
 pub mod Plans
+pub mod QuickMetric

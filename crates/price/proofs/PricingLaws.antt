@@ -1,7 +1,7 @@
 -- Laws of the calls that write a plan: what each answers and leaves in the area, and the cases of pricing.
 use Prim.Native.Nat.{ℕ, _^_, _≤_, _<_}
 use native.Mathlib.Omega.{arith}
-use mathlib.Core.Path.{_≡_, refl, sym, ap, ap₂, subst, _∙_}
+use mathlib.Core.Path.{_≡_, refl, ap, ap₂, subst, _∙_}
 use mathlib.Core.Bool.{true, false}
 use mathlib.Core.List.{List}
 use borrow.Author.Tests.{le-leb, leb-true, lt-ltb, ltb-true}
@@ -16,16 +16,12 @@ use Rattle.sheet.specs.Records.{splice}
 use Rattle.sheet.specs.Answers.{Answer, accepted, refused}
 use Rattle.sheet.specs.Sheet.{instanceBy, instanceOf}
 use Rattle.sheet.specs.Shape.{Shape}
-use Rattle.sheet.specs.Reading.{counts, reading, meaning as readingMeaning}
-use Rattle.sheet.specs.OnePass.{formAndAmounts}
-use Rattle.sheet.specs.declared.Reading.{Reading}
+use Rattle.sheet.specs.Reading.{counts, reading}
 use Rattle.sheet.proofs.ReadingLaws.{same-result, apart}
-use Rattle.sheet.proofs.AcceptedLaws.{PassesFive, shape-of, instance-is, passes-five, accepts}
-use Rattle.sheet.proofs.CostBounds.{total-fits-five}
+use Rattle.sheet.proofs.AcceptedLaws.{shape-of, instance-is, accepts, door}
+use Rattle.sheet.proofs.CostBounds.{total-fits}
 use Rattle.price.specs.Plan.{planBytes, question9, writing}
 use Rattle.price.specs.Pricing.{Result, result, Plan, plan, meaning, answer, areaAfter, question8, pricing}
-use Rattle.price.specs.WithoutRule.{pricingWithoutRule}
-use Rattle.price.specs.AfterReading.{Passed, ReadAs, pricingAfter}
 use Rattle.price.specs.declared.Planned.{Planned}
 use Rattle.price.proofs.PlanLaws.{fits-within, writes-plan}
 
@@ -62,25 +58,25 @@ pub marked-when : (m set : ℕ) → set < 2 ^ 32 → any m (member set) ≡ true
 unfolding question8
 marked-when m set bits some none = and-both (le-leb 1 set (member-some m set some)) (lt-ltb set (2 ^ m) (below-pow 32 m set bits none))
 
--- ---- the cases of pricing, after what reading says
+-- ---- the cases of pricing
 
-module _ (r : Reading) (s : List ℕ) (set room : ℕ) where
-  pub unread : (k : ℕ) → readingMeaning r ≡ refused k → pricingAfter r s set room ≡ refused k
-  unfolding pricingAfter
+module _ (s : List ℕ) (set room : ℕ) where
+  pub unread : (k : ℕ) → reading s ≡ refused k → pricing s set room ≡ refused k
+  unfolding pricing
   unread k e = rw e
 
-  module _ (m n : ℕ) (e : readingMeaning r ≡ accepted (counts m n)) where
-    pub badly-marked : question8 m set ≡ false → pricingAfter r s set room ≡ refused 8
-    unfolding pricingAfter
+  module _ (m n : ℕ) (e : reading s ≡ accepted (counts m n)) where
+    pub badly-marked : question8 m set ≡ false → pricing s set room ≡ refused 8
+    unfolding pricing
     badly-marked q = rw (e, q)
 
-    pub no-room : question8 m set ≡ true → question9 m n room ≡ false → pricingAfter r s set room ≡ refused 9
-    unfolding pricingAfter
+    pub no-room : question8 m set ≡ true → question9 m n room ≡ false → pricing s set room ≡ refused 9
+    unfolding pricing
     no-room q h = rw (e, q, h)
 
     pub priced-plan : question8 m set ≡ true → question9 m n room ≡ true
-        → pricingAfter r s set room ≡ accepted (plan (instanceOf s) set (totalCost (instanceOf s) (member set)) 0)
-    unfolding pricingAfter
+        → pricing s set room ≡ accepted (plan (instanceOf s) set (totalCost (instanceOf s) (member set)) 0)
+    unfolding pricing
     priced-plan q h = rw (e, q, h)
 
 -- ---- what the writer leaves, of a sheet and an area that are long enough
@@ -90,41 +86,24 @@ pub writes-of : (s : List ℕ) (m n set total moves room : ℕ) → Shape s m n 
 writes-of s m n set total moves room f q =
     writes-plan s m n set total moves room (fits-within m n room (f .few-yards) (f .few-farms) ∙ q) (f .room)
 
-module _ (r : Reading) (s : List ℕ) (m n set total : ℕ) (e : readingMeaning r ≡ accepted (counts m n)) (p : Passed s m n)
-    (t : total ≡ totalCost (instanceBy s m n) (member set)) where
+module _ (s : List ℕ) (m n set total : ℕ) (e : reading s ≡ accepted (counts m n)) (t : total ≡ totalCost (instanceBy s m n) (member set)) where
+  total-is : total ≡ totalCost (instanceOf s) (member set)
+  total-is = t ∙ ap (λ I. totalCost I (member set)) (instance-is (accepts s m n e .has))
+
+  -- a full cost fits an amount
+  pub total-small : total < 2 ^ 32
+  total-small = rw total-is (total-fits (instanceOf s) (door s m n e) (member set))
+
   -- pricing that passes its questions writes the plan of the set
   pub prices : (area next : List ℕ) (bytes : ℕ) → question8 m set ≡ true → question9 m n (length area) ≡ true
       → bytes ≡ length (writing s m n set total 0 (length area)) → next ≡ splice area 0 (writing s m n set total 0 (length area))
-      → (accepted (result bytes 0) ≡ answer (pricingAfter r s set (length area))) × (next ≡ areaAfter (pricingAfter r s set (length area)) area)
+      → (accepted (result bytes 0) ≡ answer (pricing s set (length area))) × (next ≡ areaAfter (pricing s set (length area)) area)
   prices area next bytes q h long put =
-      let is = writes-of s m n set total 0 (length area) (p .shape) h
-      ∙ ap₂ (λ I x. planBytes I set x 0) (p .instance-is) (t ∙ ap (λ I. totalCost I (member set)) (p .instance-is)) in
-      makes (pricingAfter r s set (length area)) area _ next bytes 0 (priced-plan r s set (length area) m n e q h)
+      let form = accepts s m n e .has in
+      let is = writes-of s m n set total 0 (length area) (shape-of form) h
+      ∙ ap₂ (λ I x. planBytes I set x 0) (instance-is form) total-is in
+      makes (pricing s set (length area)) area _ next bytes 0 (priced-plan s set (length area) m n e q h)
       (long ∙ ap length is) refl (put ∙ ap (splice area 0) is)
-
--- ---- which are the cases of the calls
-
-passed : (s : List ℕ) (m n : ℕ) → PassesFive s m n → Passed s m n
-passed s m n five =
-    record { shape = shape-of (five .has); instance-is = instance-is (five .has); total-fits = total-fits-five s m n five }
-
--- what reading says of a sheet is so, with question 6 and without it
-pub read-as : (s : List ℕ) (r : Reading) → readingMeaning r ≡ reading s → ReadAs s r
-read-as s r e m n h =
-    let all = accepts s m n (sym e ∙ h) in
-    passed s m n (record { has = all .has; fees = all .fees; hauls-within = all .hauls-within })
-
-pub read-as-five : (s : List ℕ) (r : Reading) → readingMeaning r ≡ formAndAmounts s → ReadAs s r
-read-as-five s r e m n h = passed s m n (passes-five s m n (sym e ∙ h))
-
-module _ (s : List ℕ) (r : Reading) (set room : ℕ) where
-  pub price-after : readingMeaning r ≡ reading s → pricingAfter r s set room ≡ pricing s set room
-  unfolding pricingAfter pricing
-  price-after e = rw e
-
-  pub price-after-five : readingMeaning r ≡ formAndAmounts s → pricingAfter r s set room ≡ pricingWithoutRule s set room
-  unfolding pricingAfter pricingWithoutRule
-  price-after-five e = rw e
 
 -- what a call answers and leaves, by another name for its outcome
 pub as-outcome : {outcome other : Answer Plan} → other ≡ outcome → (r : Planned) (area next : List ℕ)

@@ -1,9 +1,6 @@
 -- Nearest: a farm's nearest open yard. Plan: the records of a plan. Known: the same by the numbers kept for the farms. Pricing:
--- questions 8 and 9, and what pricing answers and writes. WithoutRule: the same without question 6. AfterReading: pricing after the
--- questions of reading, for a private function alone.
+-- questions 8 and 9, and what pricing answers and writes.
 pub mod Nearest
 pub mod Plan
 pub mod Known
 pub mod Pricing
-pub mod WithoutRule
-pub mod AfterReading

@@ -1,8 +1,8 @@
 // Pricing: the nearest open yard of each farm, what a set of yards costs, and the plan of it in the caller's area.
 //
-// `price` asks questions 1 to 6, 8 and 9 of document 01 and writes the plan of the set that it is given. `price_without_rule` does not
-// ask question 6, for the benchmark. `write_plan`, with `plan_fits`, writes the plan of any set for callers that have read the sheet,
-// and `write_plan_by` for those that know each farm's nearest yard too. Every call is total.
+// `price` asks questions 1 to 6, 8 and 9 of document 01 and writes the plan of the set that it is given. `write_plan`, with
+// `plan_fits`, writes the plan of any set for callers that have read the sheet, and `write_plan_by` for those that know each farm's
+// nearest yard too. Every call is total.
 mod nearest;
 mod plan;
 
@@ -19,8 +19,6 @@ ghost use mathlib.Core.Path.{_≡_};
 ghost use Prim.Native.Nat.{_≤_};
 ghost use lib.ListN.{length};
 ghost use Rattle.price.specs.Pricing.{meaning, answer, areaAfter, question8, pricing};
-ghost use Rattle.price.specs.WithoutRule.{pricingWithoutRule};
-ghost use Rattle.price.specs.AfterReading.{ReadAs, pricingAfter};
 use sheet::Reading;
 
 // What a call that writes a plan answers: the bytes written and the moves made, or the number of the first question that is
@@ -36,26 +34,7 @@ pub fn price(sheet: &[u8], set: u32, area: &mut [u8]) -> Planned
     ensures answer { λ r. ⌜ meaning r ≡ answer (pricing (now (sheet .entry)) set (length (now (area .entry)))) ⌝ }
     ensures area { λ r. ⌜ now (area .exit) ≡ areaAfter (pricing (now (sheet .entry)) set (length (now (area .entry)))) (now (area .entry)) ⌝ }
 {
-    let reading = sheet::read(sheet);
-    price_after(reading, sheet, set, area)
-}
-
-// The same of a sheet that question 6 is not asked of.
-pub fn price_without_rule(sheet: &[u8], set: u32, area: &mut [u8]) -> Planned
-    ensures answer { λ r. ⌜ meaning r ≡ answer (pricingWithoutRule (now (sheet .entry)) set (length (now (area .entry)))) ⌝ }
-    ensures area { λ r. ⌜ now (area .exit) ≡ areaAfter (pricingWithoutRule (now (sheet .entry)) set (length (now (area .entry)))) (now (area .entry)) ⌝ }
-{
-    let passed = sheet::form_and_amounts_of(sheet);
-    price_after(passed, sheet, set, area)
-}
-
-// Asks questions 8 and 9 after those of reading, and writes the plan.
-fn price_after(reading: Reading, sheet: &[u8], set: u32, area: &mut [u8]) -> Planned
-    requires { ⌜ ReadAs (now sheet) reading ⌝ }
-    ensures answer { λ r. ⌜ meaning r ≡ answer (pricingAfter reading (now (sheet .entry)) set (length (now (area .entry)))) ⌝ }
-    ensures area { λ r. ⌜ now (area .exit) ≡ areaAfter (pricingAfter reading (now (sheet .entry)) set (length (now (area .entry)))) (now (area .entry)) ⌝ }
-{
-    match reading {
+    match sheet::read(sheet) {
         Reading::Accepted { yards, farms } => {
             let marked = set_good(yards, set);
             let fits = plan_fits(yards, farms, area.len());

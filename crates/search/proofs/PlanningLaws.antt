@@ -16,11 +16,9 @@ use Rattle.sheet.specs.Records.{splice}
 use Rattle.sheet.specs.Answers.{Answer, accepted, refused, ask, after}
 use Rattle.sheet.specs.Sheet.{instanceBy, instanceOf}
 use Rattle.sheet.specs.Shape.{Shape}
-use Rattle.sheet.specs.Reading.{Counts, counts, reading, meaning as readingMeaning}
-use Rattle.sheet.specs.OnePass.{formAndAmounts}
-use Rattle.sheet.specs.declared.Reading.{Reading}
+use Rattle.sheet.specs.Reading.{Counts, counts, reading}
 use Rattle.sheet.proofs.ReadingLaws.{same-result, apart}
-use Rattle.sheet.proofs.AcceptedLaws.{shape-of, instance-is, accepts, passes-five, door}
+use Rattle.sheet.proofs.AcceptedLaws.{instance-is, accepts, door}
 use Rattle.sheet.proofs.CostBounds.{total-fits, service-fits}
 use Rattle.price.specs.Plan.{question9}
 use Rattle.price.specs.Known.{Known, writingBy}
@@ -32,8 +30,7 @@ use Rattle.search.specs.declared.moves.Neighbourhood.{Neighbourhood}
 use Rattle.search.specs.declared.moves.Neighbourhood.the-variants.{AddDropSwap, Swap}
 use Rattle.search.specs.Settling.{settledAt, openEnd, limitedEnd, planOf}
 use Rattle.search.specs.Planning.{openPlan, limitedPlan, question7, openPlanning, limitedPlanning}
-use Rattle.search.specs.Preparing.{endBy, ReadAs, planningAfter}
-use Rattle.search.specs.WithoutRule.{openPlanningWithoutRule, limitedPlanningWithoutRule}
+use Rattle.search.specs.Preparing.{endBy, planningBy}
 
 -- the writer, given a settled set and its farms' nearest yards, leaves its plan
 pub writes-settled : (s : List ℕ) (m n : ℕ) (r : Settled) (numbers area next : List ℕ) (bytes : ℕ) → Shape s m n
@@ -94,68 +91,42 @@ module _ (m k : ℕ) where
   unfolding question7
   k-within h = (leb-true 1 k (and-left _ _ h), leb-true k m (and-right (leb 1 k) _ h))
 
--- ---- the cases after reading
+-- ---- the cases
 
-module _ (r : Reading) (moves : Neighbourhood) (s : List ℕ) (k room : ℕ) where
-  pub after-refusal : (number : ℕ) → readingMeaning r ≡ refused number → planningAfter r moves s k room ≡ refused number
-  unfolding planningAfter
-  after-refusal number e = rw e
+module _ (moves : Neighbourhood) (s : List ℕ) (k room : ℕ) where
+  pub unread : (number : ℕ) → reading s ≡ refused number → planningBy moves s k room ≡ refused number
+  unfolding planningBy
+  unread number e = rw e
 
-  module _ (m n : ℕ) (e : readingMeaning r ≡ accepted (counts m n)) where
-    pub after-bad-k : question7 m k ≡ false → planningAfter r moves s k room ≡ refused 7
-    unfolding planningAfter
-    after-bad-k q = rw (e, q)
+  module _ (m n : ℕ) (e : reading s ≡ accepted (counts m n)) where
+    pub bad-k : question7 m k ≡ false → planningBy moves s k room ≡ refused 7
+    unfolding planningBy
+    bad-k q = rw (e, q)
 
-    pub after-no-room : question7 m k ≡ true → question9 m n room ≡ false → planningAfter r moves s k room ≡ refused 9
-    unfolding planningAfter
-    after-no-room q h = rw (e, q, h)
+    pub no-room : question7 m k ≡ true → question9 m n room ≡ false → planningBy moves s k room ≡ refused 9
+    unfolding planningBy
+    no-room q h = rw (e, q, h)
 
-    pub after-planned : question7 m k ≡ true → question9 m n room ≡ true → instanceBy s m n ≡ instanceOf s
-        → planningAfter r moves s k room ≡ accepted (planOf (instanceBy s m n) (endBy moves (instanceBy s m n) k))
-    unfolding planningAfter
-    after-planned q h same = rw (e, q, h) (ap (λ I. accepted (planOf I (endBy moves I k))) (sym same))
+    pub planned : question7 m k ≡ true → question9 m n room ≡ true
+        → planningBy moves s k room ≡ accepted (planOf (instanceBy s m n) (endBy moves (instanceBy s m n) k))
+    unfolding planningBy
+    planned q h = rw (e, q, h) (ap (λ I. accepted (planOf I (endBy moves I k))) (sym (instance-is (accepts s m n e .has))))
 
 -- ---- which are the cases of the calls
-
--- what reading says of a sheet is so, with question 6 and without it
-pub read-as : (s : List ℕ) (r : Reading) → readingMeaning r ≡ reading s → ReadAs s r
-read-as s r e m n h =
-    let all = accepts s m n (sym e ∙ h) in
-    record { shape = shape-of (all .has); within = record { fees = all .fees; hauls = all .hauls-within }; instance-is = instance-is (all .has) }
-
-pub read-as-five : (s : List ℕ) (r : Reading) → readingMeaning r ≡ formAndAmounts s → ReadAs s r
-read-as-five s r e m n h =
-    let five = passes-five s m n (sym e ∙ h) in
-    record { shape = shape-of (five .has); within = record { fees = five .fees; hauls = five .hauls-within }; instance-is = instance-is (five .has) }
 
 after-same : {A B : Type 0} (a : Answer A) (f g : A → Answer B) → ((x : A) → a ≡ accepted x → f x ≡ g x) → after a f ≡ after a g
 after-same (accepted x) f g h = h x refl
 after-same (refused k) f g h = refl
 
 -- an open plan asks no question 7, and k of 1 passes it where a yard is there
-open-asks : (a : Answer Counts) (s : List ℕ) (room : ℕ) → ((m n : ℕ) → a ≡ accepted (counts m n) → 1 ≤ m)
-    → after a (λ c. ask (question7 (c .yards) 1) 7 (ask (question9 (c .yards) (c .farms) room) 9 (accepted (planOf (instanceOf s) (endBy AddDropSwap (instanceOf s) 1)))))
-    ≡ after a (λ c. ask (question9 (c .yards) (c .farms) room) 9 (accepted (openPlan (instanceOf s))))
-unfolding openPlan endBy
-open-asks a s room some =
-    after-same a _ _ (λ c e. rw (k-good (c .yards) 1 (omega arith) (some (c .yards) (c .farms) e)))
+pub open-planning : (s : List ℕ) (room : ℕ) → planningBy AddDropSwap s 1 room ≡ openPlanning s room
+unfolding planningBy openPlanning openPlan endBy
+open-planning s room =
+    after-same (reading s) _ _ (λ c e. rw (k-good (c .yards) 1 (omega arith) (accepts s (c .yards) (c .farms) e .has .some-yards)))
 
-module _ (s : List ℕ) (r : Reading) (room : ℕ) where
-  pub open-after : readingMeaning r ≡ reading s → planningAfter r AddDropSwap s 1 room ≡ openPlanning s room
-  unfolding planningAfter openPlanning
-  open-after e = rw e (open-asks (reading s) s room (λ m n h. accepts s m n h .has .some-yards))
-
-  pub open-after-five : readingMeaning r ≡ formAndAmounts s → planningAfter r AddDropSwap s 1 room ≡ openPlanningWithoutRule s room
-  unfolding planningAfter openPlanningWithoutRule
-  open-after-five e = rw e (open-asks (formAndAmounts s) s room (λ m n h. passes-five s m n h .has .some-yards))
-
-  pub limited-after : (k : ℕ) → readingMeaning r ≡ reading s → planningAfter r Swap s k room ≡ limitedPlanning s k room
-  unfolding planningAfter limitedPlanning limitedPlan endBy
-  limited-after k e = rw e
-
-  pub limited-after-five : (k : ℕ) → readingMeaning r ≡ formAndAmounts s → planningAfter r Swap s k room ≡ limitedPlanningWithoutRule s k room
-  unfolding planningAfter limitedPlanningWithoutRule limitedPlan endBy
-  limited-after-five k e = rw e
+pub limited-planning : (s : List ℕ) (k room : ℕ) → planningBy Swap s k room ≡ limitedPlanning s k room
+unfolding planningBy limitedPlanning limitedPlan endBy
+limited-planning s k room = refl
 
 -- ---- and back: where a plan is made, the sheet was accepted and the questions were answered yes
 

@@ -2,15 +2,8 @@
 use Prim.Native.Nat.{ℕ, _+_, _-_, _*_, _≤_, _<_}
 use native.Mathlib.Nat.{not-suc-le-zero}
 use native.Mathlib.Omega.{arith}
-use mathlib.Core.Path.{_≡_, refl, sym, ap, ap₂, _∙_}
-use mathlib.Core.Bool.{true, false}
+use mathlib.Core.Path.{_≡_, refl, sym, ap, _∙_}
 use mathlib.Core.List.{List}
-use mir.Syntax.{w32}
-use mir.Val.{toZ}
-use mir.ValLaws.{toZ-pos}
-use borrow.Author.Tests.{leb-true, leb-false}
-use lib.Dec.{leb}
-use lib.Signed.{leZ}
 use lib.ListN.{length, getD, set, length-set}
 use lib.Seq.{getD-set-same, getD-set-other}
 use Rattle.model.proofs.LoopLaws.{up-to}
@@ -18,18 +11,6 @@ use Rattle.model.proofs.SumLaws.{sum-none, sum-more, sum-bound}
 use Rattle.sheet.proofs.ShapeLaws.{row-within}
 use Rattle.search.specs.Prices.{Rows, entry}
 use Rattle.search.specs.Shifting.{Shiftable, Shifted, ShiftedBoth, Addable, RowAdded, Aside, NoSums, ColumnSums}
-
--- ---- costs compared as signed numbers: the order is the same
-
-signed-test : (x y : ℕ) → x ≤ 1000000 → y ≤ 1000000 → leZ (toZ w32 x) (toZ w32 y) ≡ leb x y
-signed-test x y few-x few-y =
-    ap₂ leZ (toZ-pos w32 x (omega arith)) (toZ-pos w32 y (omega arith))
-
-pub signed-le : (x y : ℕ) → x ≤ 1000000 → y ≤ 1000000 → leZ (toZ w32 x) (toZ w32 y) ≡ true → x ≤ y
-signed-le x y few-x few-y e = leb-true x y (sym (signed-test x y few-x few-y) ∙ e)
-
-pub signed-gt : (x y : ℕ) → x ≤ 1000000 → y ≤ 1000000 → leZ (toZ w32 x) (toZ w32 y) ≡ false → y < x
-signed-gt x y few-x few-y e = leb-false x y (sym (signed-test x y few-x few-y) ∙ e)
 
 -- ---- shifting a row
 

@@ -1,19 +1,15 @@
 -- What every plan goes through, for private functions alone: where a search of either kind starts and ends, the tables before its
--- first client is counted, and the questions after those of reading.
+-- first client is counted, and the questions that are asked.
 use Prim.Native.Nat.{ℕ, _*_, _<_}
-use mathlib.Core.Path.{_≡_}
 use mathlib.Core.List.{List}
 use Rattle.model.specs.Instance.{Instance}
 use Rattle.model.specs.Plans.{openStart, limitedStart}
 use Rattle.sheet.specs.Answers.{Answer, accepted, ask, after}
-use Rattle.sheet.specs.Sheet.{instanceBy, instanceOf}
-use Rattle.sheet.specs.Shape.{Shape}
-use Rattle.sheet.specs.Reading.{counts, meaning}
-use Rattle.sheet.specs.declared.Reading.{Reading}
+use Rattle.sheet.specs.Sheet.{instanceOf}
+use Rattle.sheet.specs.Reading.{reading}
 use Rattle.price.specs.Plan.{question9}
 use Rattle.price.specs.Pricing.{Plan}
 use Rattle.search.specs.Tables.{Holds, Zeros}
-use Rattle.search.specs.Amounts.{Within}
 use Rattle.search.specs.Prices.{Kept}
 use Rattle.search.specs.Shifting.{ColumnSums}
 use Rattle.search.specs.Standing.{Uncounted}
@@ -44,18 +40,8 @@ pub record Prepared (s : List ℕ) (m n : ℕ) (service kept : List ℕ) : Type 
   pub columns : ColumnSums m n service kept
   pub waiting : (j : ℕ) → j < n → Uncounted kept j
 
--- a sheet of m yards and n farms that questions 1 to 5 pass
-pub record Passed (s : List ℕ) (m n : ℕ) : Type 0 where
-  pub shape : Shape s m n
-  pub within : Within s m n
-  pub instance-is : instanceBy s m n ≡ instanceOf s
-
--- what reading says of a sheet is so: with counts, it passes questions 1 to 5
-abbrev pub ReadAs : List ℕ → Reading → Type 0
-ReadAs s reading = (m n : ℕ) → meaning reading ≡ accepted (counts m n) → Passed s m n
-
--- questions 7 and 9 after those of reading, and the plan
-unfoldable pub planningAfter : Reading → Neighbourhood → List ℕ → ℕ → ℕ → Answer Plan
-planningAfter reading moves s k room =
-    after (meaning reading) (λ c. ask (question7 (c .yards) k) 7 (ask (question9 (c .yards) (c .farms) room) 9
+-- questions 1 to 6, 7 and 9, and the plan
+unfoldable pub planningBy : Neighbourhood → List ℕ → ℕ → ℕ → Answer Plan
+planningBy moves s k room =
+    after (reading s) (λ c. ask (question7 (c .yards) k) 7 (ask (question9 (c .yards) (c .farms) room) 9
     (accepted (planOf (instanceOf s) (endBy moves (instanceOf s) k)))))

@@ -2,7 +2,7 @@
 //
 // `open_plan` goes by fees and hauls and adds, drops and swaps yards; `limited_plan` keeps k yards and goes by hauls alone. Both read
 // the sheet once into tables and run the same search on them, which prices every move by sums that it keeps from move to move.
-// `open_plan_without_rule` and `limited_plan_without_rule` do not ask question 6, for the benchmark. Every call is total.
+// Every call is total.
 mod clients;
 mod cost;
 mod descent;
@@ -16,10 +16,9 @@ ghost use mathlib.Core.Path.{_≡_};
 ghost use lib.ListN.{length};
 ghost use Rattle.price.specs.Pricing.{meaning, answer, areaAfter};
 ghost use Rattle.search.specs.Planning.{openPlanning, limitedPlanning};
-ghost use Rattle.search.specs.WithoutRule.{openPlanningWithoutRule, limitedPlanningWithoutRule};
 ghost use Rattle.search.specs.Promises.{OpenPlanSettled, OpenPlanBounded, LimitedPlanSettled, LimitedPlanBounded};
 use moves::Neighbourhood;
-use planning::plan_after;
+use planning::plan_with;
 use price::Planned;
 
 // Writes the open plan of a sheet to the front of the area. A refused call leaves the area as it was.
@@ -29,8 +28,7 @@ pub fn open_plan(sheet: &[u8], area: &mut [u8]) -> Planned
     ensures settled { λ r. ⌜ OpenPlanSettled (now (sheet .entry)) r (now (area .exit)) ⌝ }
     ensures bounded { λ r. ⌜ OpenPlanBounded (now (sheet .entry)) r (now (area .exit)) ⌝ }
 {
-    let reading = sheet::read(sheet);
-    plan_after(reading, Neighbourhood::AddDropSwap, sheet, 1, area)
+    plan_with(Neighbourhood::AddDropSwap, sheet, 1, area)
 }
 
 // Writes the limited plan of a sheet for k yards to the front of the area. A refused call leaves the area as it was.
@@ -40,24 +38,5 @@ pub fn limited_plan(sheet: &[u8], k: usize, area: &mut [u8]) -> Planned
     ensures settled { λ r. ⌜ LimitedPlanSettled (now (sheet .entry)) r (now (area .exit)) ⌝ }
     ensures bounded { λ r. ⌜ LimitedPlanBounded (now (sheet .entry)) k r (now (area .exit)) ⌝ }
 {
-    let reading = sheet::read(sheet);
-    plan_after(reading, Neighbourhood::Swap, sheet, k, area)
-}
-
-// The open plan of a sheet that question 6 is not asked of: without it nothing is promised against rivals.
-pub fn open_plan_without_rule(sheet: &[u8], area: &mut [u8]) -> Planned
-    ensures answer { λ r. ⌜ meaning r ≡ answer (openPlanningWithoutRule (now (sheet .entry)) (length (now (area .entry)))) ⌝ }
-    ensures area { λ r. ⌜ now (area .exit) ≡ areaAfter (openPlanningWithoutRule (now (sheet .entry)) (length (now (area .entry)))) (now (area .entry)) ⌝ }
-{
-    let counted = sheet::form_and_amounts_of(sheet);
-    plan_after(counted, Neighbourhood::AddDropSwap, sheet, 1, area)
-}
-
-// The same of the limited plan for k yards.
-pub fn limited_plan_without_rule(sheet: &[u8], k: usize, area: &mut [u8]) -> Planned
-    ensures answer { λ r. ⌜ meaning r ≡ answer (limitedPlanningWithoutRule (now (sheet .entry)) k (length (now (area .entry)))) ⌝ }
-    ensures area { λ r. ⌜ now (area .exit) ≡ areaAfter (limitedPlanningWithoutRule (now (sheet .entry)) k (length (now (area .entry)))) (now (area .entry)) ⌝ }
-{
-    let passed = sheet::form_and_amounts_of(sheet);
-    plan_after(passed, Neighbourhood::Swap, sheet, k, area)
+    plan_with(Neighbourhood::Swap, sheet, k, area)
 }

@@ -1,4 +1,4 @@
-// From what reading says of a sheet to the plan in the area: the tables, the start, the search on them, and the records.
+// From a sheet to the plan in the area: what reading says, the tables, the start, the search on them, and the records.
 //
 // Every plan goes one way, whatever its moves. So the compiler makes one piece of code of it in which it sees that the tables do not
 // overlap, and its loops need not look.
@@ -19,7 +19,7 @@ ghost use Rattle.search.specs.Prices.{Rows};
 ghost use Rattle.search.specs.Shifting.{ColumnSums};
 ghost use Rattle.search.specs.Standing.{Fees};
 ghost use Rattle.search.specs.Settling.{planOf};
-ghost use Rattle.search.specs.Preparing.{startBy, endBy, OpeningBy, Prepared, ReadAs, planningAfter};
+ghost use Rattle.search.specs.Preparing.{startBy, endBy, OpeningBy, Prepared, planningBy};
 use crate::descent;
 use crate::descent::Settled;
 use crate::moves::Neighbourhood;
@@ -39,19 +39,12 @@ const HAULS: usize = MOST_YARDS * MOST_FARMS + MOST_YARDS;
 // Stands for the fee of a place that is no yard: no move there looks cheap.
 const NO_YARD: u32 = 2000000000;
 
-// Asks questions 7 and 9 after those of reading, and writes the plan. An open plan is asked for with k of 1, which question 7 passes.
-pub(crate) fn plan_after(
-    reading: Reading,
-    moves: Neighbourhood,
-    sheet: &[u8],
-    k: usize,
-    area: &mut [u8],
-) -> Planned
-    requires { ⌜ ReadAs (now sheet) reading ⌝ }
-    ensures answer { λ r. ⌜ meaning r ≡ answer (planningAfter reading moves (now (sheet .entry)) k (length (now (area .entry)))) ⌝ }
-    ensures area { λ r. ⌜ now (area .exit) ≡ areaAfter (planningAfter reading moves (now (sheet .entry)) k (length (now (area .entry)))) (now (area .entry)) ⌝ }
+// Asks questions 1 to 6, 7 and 9, and writes the plan. An open plan is asked for with k of 1, which question 7 passes.
+pub(crate) fn plan_with(moves: Neighbourhood, sheet: &[u8], k: usize, area: &mut [u8]) -> Planned
+    ensures answer { λ r. ⌜ meaning r ≡ answer (planningBy moves (now (sheet .entry)) k (length (now (area .entry)))) ⌝ }
+    ensures area { λ r. ⌜ now (area .exit) ≡ areaAfter (planningBy moves (now (sheet .entry)) k (length (now (area .entry)))) (now (area .entry)) ⌝ }
 {
-    match reading {
+    match sheet::read(sheet) {
         Reading::Accepted { yards, farms } => {
             if k < 1 {
                 return Planned::Refused(7);

@@ -1,5 +1,4 @@
--- What a sheet has that questions 1 to 4 pass, one that questions 1 to 5 pass and one that reading accepts: its counts, its length
--- and each of its records; and the door: the instance of an accepted sheet is metric and within the bounds of the format.
+-- What a sheet has that questions 1 to 4 pass and one that reading accepts: its counts, its length and each of its records; and the door: the instance of an accepted sheet is metric and within the bounds of the format.
 use Prim.Native.Nat.{ℕ, _+_, _*_, _≤_, _<_}
 use native.Mathlib.Nat.{add-assoc, zero-add}
 use native.Mathlib.Omega.{arith}
@@ -20,8 +19,8 @@ use Rattle.sheet.specs.Sheet.{records, isYard, yards, hauls, farms, fee,
 use Rattle.sheet.specs.Questions.{question5, question6, amountWithin}
 use Rattle.sheet.specs.Shape.{Shape}
 use Rattle.sheet.specs.Reading.{counts, form, reading}
-use Rattle.sheet.specs.OnePass.{formAndAmounts}
-use Rattle.sheet.proofs.ReadingLaws.{Formed, formed, accepted-when, amounts-accepted}
+use Rattle.sheet.specs.Hauls.{HaulsWithin}
+use Rattle.sheet.proofs.ReadingLaws.{Formed, formed, accepted-when}
 use Rattle.sheet.proofs.ShapeLaws.{row-within}
 use Rattle.sheet.proofs.FormLaws.{yards-le, hauls-are, some-yards, few-yards, whole-records, well-formed, yard-numbered, no-yard-after, hauls-shared, some-farms, few-farms, haul-numbered}
 
@@ -123,17 +122,11 @@ sixth-is f = ap metric (instance-is f)
 
 -- ---- accepted sheets
 
--- what questions 1 to 5 say of a sheet of m yards and n farms
-pub record PassesFive (s : List ℕ) (m n : ℕ) : Type 0 where
-  pub has : HasForm s m n
-  pub fees : (i : ℕ) → i < m → fee s i ≤ 50000000
-  pub hauls-within : (a p : ℕ) → a < m → p < n → haul s m a p ≤ 1000000
-
--- what questions 1 to 6 say of it
+-- what questions 1 to 6 say of a sheet of m yards and n farms
 pub record Accepted (s : List ℕ) (m n : ℕ) : Type 0 where
   pub has : HasForm s m n
   pub fees : (i : ℕ) → i < m → fee s i ≤ 50000000
-  pub hauls-within : (a p : ℕ) → a < m → p < n → haul s m a p ≤ 1000000
+  pub hauls-within : HaulsWithin s m n
   pub is-metric : metric (instanceOf s) ≡ true
 
 -- ---- question 5
@@ -150,28 +143,28 @@ amount-within s h i l =
     leb-true (recordAt s (yards s + i) .amount) 1000000
     (all-at (amountWithin s (yards s) 1000000) (hauls s) i (and-right (allBelow (yards s) (amountWithin s 0 50000000)) _ h) l)
 
-haul-within : (s : List ℕ) → Formed s → question5 s ≡ true → (a p : ℕ) → a < yards s → p < farms s → haul s (yards s) a p ≤ 1000000
+haul-within : (s : List ℕ) → Formed s → question5 s ≡ true → HaulsWithin s (yards s) (farms s)
 unfolding haul
 haul-within s y h a p la lp =
     let below = within-hauls (yards s) (farms s) a p la lp in
     rw (haul, add-assoc (yards s) (p * yards s) a) (amount-within s h (p * yards s + a) (omega (arith, hauls-shared s y)))
 
-five-yes : (s : List ℕ) → Formed s → question5 s ≡ true → PassesFive s (yards s) (farms s)
-five-yes s y h = record { has = form-has s y; fees = fee-within s h; hauls-within = haul-within s y h }
-
-pub passes-five : (s : List ℕ) (m n : ℕ) → formAndAmounts s ≡ accepted (counts m n) → PassesFive s m n
-passes-five s m n h =
-    let five = amounts-accepted s h in
-    let f = formed s m n (five .0) in
-    rw (← f .1, ← f .2) (five-yes s (f .0) (five .1))
+pub hauls-bounded : (s : List ℕ) (m n : ℕ) → form s ≡ accepted (counts m n) → question5 s ≡ true → HaulsWithin s m n
+hauls-bounded s m n h q =
+    let f = formed s m n h in
+    rw (← f .1, ← f .2) (haul-within s (f .0) q)
 
 pub accepts : (s : List ℕ) (m n : ℕ) → reading s ≡ accepted (counts m n) → Accepted s m n
 unfolding question6
 accepts s m n h =
     let w = accepted-when s m n h in
     let y = w .0 in
-    let five = five-yes s (y .well-formed) (y .fifth) in
-    rw (← w .1, ← w .2) (record { has = five .has; fees = five .fees; hauls-within = five .hauls-within; is-metric = y .sixth })
+    rw (← w .1, ← w .2) (record {
+      has = form-has s (y .well-formed);
+      fees = fee-within s (y .fifth);
+      hauls-within = haul-within s (y .well-formed) (y .fifth);
+      is-metric = y .sixth;
+    })
 
 -- the bounds that the format sets an instance
 pub record WithinBounds (I : Instance) : Type 0 where

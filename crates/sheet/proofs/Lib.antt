@@ -5,6 +5,7 @@ pub mod QuestionLaws
 pub mod ReadingLaws
 pub mod FormLaws
 pub mod ShapeLaws
+pub mod HaulLaws
 pub mod AcceptedLaws
 pub mod FarmLaws
 pub mod OnePassLaws

@@ -1,15 +1,14 @@
 // The haul sheet: eight-byte records, read where they lie.
 //
-// `read` asks questions 1 to 6 of document 01, `form_and_amounts_of` questions 1 to 5 alone, `farm_hauls` gives one farm's stretch
-// of the sheet. Every call is total: it takes any bytes at all. `Record` is the one place that knows the bytes of a record.
+// `read` asks questions 1 to 6 of document 01, `farm_hauls` gives one farm's stretch of the sheet. Every call is total: it takes any
+// bytes at all. `Record` is the one place that knows the bytes of a record.
 mod amounts;
 mod form;
-mod four_point;
+mod hauls;
 mod one_pass;
 mod record;
 
 pub use form::MOST_BYTES;
-pub use one_pass::form_and_amounts_of;
 pub use record::KIND_HAUL;
 pub use record::KIND_YARD;
 pub use record::Record;
@@ -32,7 +31,7 @@ pub fn read(sheet: &[u8]) -> Reading
 {
     match one_pass::form_and_amounts_of(sheet) {
         Reading::Accepted { yards, farms } => {
-            if !four_point::is_metric(sheet, yards, farms) {
+            if !hauls::are_metric(sheet, yards, farms) {
                 return Reading::Refused(6);
             }
             Reading::Accepted { yards, farms }

@@ -39,7 +39,7 @@ pub(crate) fn form_of(sheet: &[u8]) -> Reading
 }
 
 // The same of questions 1 to 5.
-pub fn form_and_amounts_of(sheet: &[u8]) -> Reading
+pub(crate) fn form_and_amounts_of(sheet: &[u8]) -> Reading
     ensures { λ r. ⌜ meaning r ≡ formAndAmounts (now (sheet .entry)) ⌝ }
 {
     match counts_of(sheet) {

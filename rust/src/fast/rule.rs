@@ -19,7 +19,11 @@ pub fn four_points(hauls: &Hauls) -> bool {
     for (farm, row) in hauls.rows().iter().enumerate() {
         for (yard, &haul) in row.iter().enumerate() {
             exact[yard][farm] = haul as i32;
-            rounded[yard][farm] = (haul / UNIT) as i16;
+        }
+    }
+    for (exact, rounded) in exact.iter().zip(&mut rounded).take(hauls.yards) {
+        for (&exact, rounded) in exact.iter().zip(rounded) {
+            *rounded = (exact as u32 / UNIT) as i16;
         }
     }
     let holds = |a: usize, b: usize| {

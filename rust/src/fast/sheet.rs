@@ -46,21 +46,15 @@ impl Hauls {
 
     /// Asks questions 1 to 6, and fills a table that has nothing yet.
     pub fn read(&mut self, sheet: &[u8]) -> Answer<()> {
-        self.read_without_rule(sheet)?;
-        if !rule::four_points(self) {
-            return Err(6);
-        }
-        Ok(())
-    }
-
-    /// The same for questions 1 to 5.
-    pub fn read_without_rule(&mut self, sheet: &[u8]) -> Answer<()> {
         if !sheet.len().is_multiple_of(RECORD) || !(SHORTEST_SHEET..=LONGEST_SHEET).contains(&sheet.len()) {
             return Err(1);
         }
         let records = sheet.as_chunks().0;
         if !self.fill(records) {
             return Err(first_no(records));
+        }
+        if !rule::four_points(self) {
+            return Err(6);
         }
         Ok(())
     }

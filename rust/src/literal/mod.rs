@@ -6,23 +6,17 @@ mod questions;
 mod search;
 #[cfg(test)]
 mod tests;
-pub mod without_rule;
 
 use crate::{Answer, Counts, Written};
-use questions::{ask, ask_1_to_4, question_7, question_8, question_9};
+use questions::{ask, ask_1_to_4, ask_1_to_6, question_7, question_8, question_9};
 use search::Settled;
 
-pub use haul_sheet::HaulSheet;
-pub use questions::{ask_1_to_5, ask_1_to_6};
 pub use search::Move;
 
 /// Reading asks 1 to 6 and returns m and n.
 pub fn read(sheet: &[u8]) -> Answer<Counts> {
-    Ok(counts_of(&ask_1_to_6(sheet)?))
-}
-
-fn counts_of(sheet: &HaulSheet) -> Counts {
-    Counts { yards: sheet.m(), farms: sheet.n() }
+    let sheet = ask_1_to_6(sheet)?;
+    Ok(Counts { yards: sheet.m(), farms: sheet.n() })
 }
 
 /// A farm's hauls as that stretch of the caller's sheet, empty for a farm n or above and where questions 1 to 4 turn it down.
@@ -35,59 +29,31 @@ pub fn farm_hauls(sheet: &[u8], farm: usize) -> &[u8] {
 
 /// Pricing asks 1 to 6, 8 and 9.
 pub fn price(sheet: &[u8], set: u32, area: &mut [u8]) -> Answer<Written> {
-    ask_and_price(&ask_1_to_6(sheet)?, set, area)
-}
-
-fn ask_and_price(sheet: &HaulSheet, set: u32, area: &mut [u8]) -> Answer<Written> {
-    ask(8, question_8(sheet, set))?;
-    ask(9, question_9(sheet, area))?;
-    Ok(price_of(sheet, set, area))
-}
-
-/// Pricing once its questions are answered yes.
-pub fn price_of(sheet: &HaulSheet, set: u32, area: &mut [u8]) -> Written {
+    let sheet = ask_1_to_6(sheet)?;
+    ask(8, question_8(&sheet, set))?;
+    ask(9, question_9(&sheet, area))?;
     let priced = Settled { set, moves: Vec::new() };
-    plan_area::write(sheet, &priced, sheet.full_cost(set), area)
+    Ok(plan_area::write(&sheet, &priced, sheet.full_cost(set), area))
 }
 
 /// An open plan asks 1 to 6 and 9.
 pub fn open_plan(sheet: &[u8], area: &mut [u8]) -> Answer<Written> {
-    ask_and_plan(&ask_1_to_6(sheet)?, area)
-}
-
-fn ask_and_plan(sheet: &HaulSheet, area: &mut [u8]) -> Answer<Written> {
-    ask(9, question_9(sheet, area))?;
-    Ok(open_plan_of(sheet, area))
-}
-
-/// An open plan once its questions are answered yes.
-pub fn open_plan_of(sheet: &HaulSheet, area: &mut [u8]) -> Written {
-    let settled = search::open_plan(sheet);
-    plan_area::write(sheet, &settled, sheet.full_cost(settled.set), area)
+    let sheet = ask_1_to_6(sheet)?;
+    ask(9, question_9(&sheet, area))?;
+    let settled = search::open_plan(&sheet);
+    Ok(plan_area::write(&sheet, &settled, sheet.full_cost(settled.set), area))
 }
 
 /// A limited plan asks 1 to 6, 7 and 9.
 pub fn limited_plan(sheet: &[u8], k: usize, area: &mut [u8]) -> Answer<Written> {
-    ask_and_plan_limited(&ask_1_to_6(sheet)?, k, area)
-}
-
-fn ask_and_plan_limited(sheet: &HaulSheet, k: usize, area: &mut [u8]) -> Answer<Written> {
-    ask(7, question_7(sheet, k))?;
-    ask(9, question_9(sheet, area))?;
-    Ok(limited_plan_of(sheet, k, area))
-}
-
-/// A limited plan once its questions are answered yes.
-pub fn limited_plan_of(sheet: &HaulSheet, k: usize, area: &mut [u8]) -> Written {
-    let settled = search::limited_plan(sheet, k);
-    plan_area::write(sheet, &settled, sheet.haul_cost(settled.set), area)
+    let sheet = ask_1_to_6(sheet)?;
+    ask(7, question_7(&sheet, k))?;
+    ask(9, question_9(&sheet, area))?;
+    let settled = search::limited_plan(&sheet, k);
+    Ok(plan_area::write(&sheet, &settled, sheet.haul_cost(settled.set), area))
 }
 
 /// The moves of the open plan, first to last; none where reading refuses the sheet.
 pub fn open_moves(sheet: &[u8]) -> Vec<Move> {
-    moves_of(ask_1_to_6(sheet))
-}
-
-fn moves_of(sheet: Answer<HaulSheet>) -> Vec<Move> {
-    sheet.map_or(Vec::new(), |sheet| search::open_plan(&sheet).moves)
+    ask_1_to_6(sheet).map_or(Vec::new(), |sheet| search::open_plan(&sheet).moves)
 }

@@ -29,16 +29,10 @@ pub fn ask_1_to_4(sheet: &[u8]) -> Answer<HaulSheet> {
     Ok(HaulSheet::new(&records))
 }
 
-/// The questions about form and amounts.
-pub fn ask_1_to_5(sheet: &[u8]) -> Answer<HaulSheet> {
-    let sheet = ask_1_to_4(sheet)?;
-    ask(5, question_5(&sheet))?;
-    Ok(sheet)
-}
-
 /// The questions that every call but a farm's stretch asks.
 pub fn ask_1_to_6(sheet: &[u8]) -> Answer<HaulSheet> {
-    let sheet = ask_1_to_5(sheet)?;
+    let sheet = ask_1_to_4(sheet)?;
+    ask(5, question_5(&sheet))?;
     ask(6, question_6(&sheet))?;
     Ok(sheet)
 }

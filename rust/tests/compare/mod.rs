@@ -2,8 +2,6 @@
 //! them so that the benchmark's times are those of the same answers.
 mod tally;
 
-#[cfg(feature = "timing")]
-use planner::calls::WITHOUT_RULE;
 use planner::calls::{Calls, PlanCall, ALL};
 use planner::format::{least_area, MOST_AREA, MOST_FARMS, MOST_YARDS, RECORD};
 use planner::random::Random;
@@ -32,18 +30,10 @@ struct Comparison<'a> {
 }
 
 /// Makes every call on the sheet, with sets, counts, areas and their bytes drawn from the seed.
-#[allow(dead_code)] // a test makes the calls with question 6 or without it
 pub fn every_call(sample: &Sample, seed: u64, tally: &mut Tally) {
     let mut comparison = Comparison::new(&ALL, sample, seed, tally);
     comparison.stretches();
     comparison.reading_and_plans();
-}
-
-/// The same without question 6. A farm's stretch never asks it.
-#[cfg(feature = "timing")]
-#[allow(dead_code)]
-pub fn every_call_without_rule(sample: &Sample, seed: u64, tally: &mut Tally) {
-    Comparison::new(&WITHOUT_RULE, sample, seed, tally).reading_and_plans();
 }
 
 impl<'a> Comparison<'a> {

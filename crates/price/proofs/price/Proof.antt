@@ -1,5 +1,11 @@
--- `price` meets its contract: what follows reading gives `pricing`.
-use Rattle.price.proofs.PricingLaws.{read-as, price-after, as-outcome}
+-- `price` meets its contract: each arm is a case of `pricing`.
+use native.Mathlib.Omega.{arith}
+use mathlib.Core.Path.{sym, ap, _∙_}
+use Rattle.model.proofs.Bools.{said-no, said-yes}
+use Rattle.sheet.specs.Reading.{meaning}
+use Rattle.sheet.proofs.AcceptedLaws.{accepts, shape-of}
+use Rattle.price.proofs.PlanLaws.{fits-says, fits-within, end-room, writes-all}
+use Rattle.price.proofs.PricingLaws.{refuses, unread, badly-marked, no-room, total-small, prices}
 use borrow.Author.Needs.{needs}
 use Rattle.price.proofs.price.Statement.{statement}
 use Rattle.price.proofs.price.Tie as tie
@@ -7,16 +13,87 @@ use Rattle.price.proofs.price.Tie as tie
 read-requires : tie.Need-read-requires
 read-requires c κs = search needs
 
-price-after-requires : tie.Need-price-after-requires
-price-after-requires c κs = read-as _ (c .before .read .result) (c .before .read .ensures)
+enum-known-yards : tie.Need-enum-known-yards
+enum-known-yards c = search needs
+
+set-good-requires : tie.Need-set-good-requires
+set-good-requires c κs = let arm = c .before in
+    accepts _ _ _ (sym (arm .before .before .read .ensures) ∙ ap meaning (arm .yards .given .1)) .has .few-yards
+
+plan-fits-requires : tie.Need-plan-fits-requires
+plan-fits-requires c κs = search needs
+
+returns : tie.Need-returns
+returns c = let asked = c .before in
+    let arm = asked .before .before .before in
+    let e = sym (arm .before .before .read .ensures) ∙ ap meaning (arm .yards .given .1) in
+    refuses _ _ 8 (badly-marked _ _ _ _ _ e (said-no (asked .before .set-good .ensures) (c .if1 .taken)))
+
+returns-2 : tie.Need-returns-2
+returns-2 c = let asked = c .before .before in
+    let arm = asked .before .before .before in
+    let e = sym (arm .before .before .read .ensures) ∙ ap meaning (arm .yards .given .1) in
+    let f = accepts _ _ _ e .has in
+    refuses _ _ 9 (no-room _ _ _ _ _ e (said-yes (asked .before .set-good .ensures) (c .before .if1 .left))
+    (said-no (asked .plan-fits .ensures ∙ fits-within _ _ _ (f .few-yards) (f .few-farms)) (c .if2 .taken)))
+
+put-body-requires : tie.Need-put-body-requires
+put-body-requires c κs = let asked = c .before .before .before in
+    let arm = asked .before .before .before in
+    let e = sym (arm .before .before .read .ensures) ∙ ap meaning (arm .yards .given .1) in
+    (shape-of (accepts _ _ _ e .has), omega (arith, fits-says _ _ _ (said-yes (asked .plan-fits .ensures) (c .before .if2 .left)) .enough))
+
+cast-put-end : tie.Need-cast-put-end
+cast-put-end c = let body = c .before .before .before in
+    let arm = body .before .before .before .before .before .before .before in
+    let e = sym (arm .before .before .read .ensures) ∙ ap meaning (arm .yards .given .1) in
+    record { fits = total-small _ _ _ _ _ e (body .put-body .ensures .1 .0) }
+
+put-end-requires : tie.Need-put-end-requires
+put-end-requires c κs = let body = c .before .before .before .before in
+    let passed = body .before .before in
+    let fits = said-yes (passed .before .before .plan-fits .ensures) (passed .if2 .left) in
+    let room = end-room _ _ _ _ _ fits (body .put-body .ensures .0) in
+    (room .0, room .1, omega (arith, room .2))
+
+enum-known-k : tie.Need-enum-known-k
+enum-known-k c = search needs
 
 same-length : tie.Need-same-length
 same-length c = search needs
 
-returns : tie.Need-returns
-returns c = let asked = c .before .before .before .before in
-    let priced = c .before .before .price-after in
-    as-outcome (price-after _ (asked .read .result) _ _ (asked .read .ensures)) (priced .result) _ _ (priced .ensures)
+returns-3 : tie.Need-returns-3
+returns-3 c = let put = c .before .before in
+    let body = put .before .before .before .before .before in
+    let passed = body .before .before in
+    let asked = passed .before .before in
+    let arm = asked .before .before .before in
+    let e = sym (arm .before .before .read .ensures) ∙ ap meaning (arm .yards .given .1) in
+    let f = shape-of (accepts _ _ _ e .has) in
+    let fits = said-yes (asked .plan-fits .ensures) (passed .if2 .left) in
+    let written = writes-all _ _ _ _ _ _ _ _ _ _ _ fits (f .room) (body .put-body .ensures .0) (body .put-body .ensures .1 .1)
+    (put .put-end .ensures .0) (put .put-end .ensures .1) in
+    prices _ _ _ _ _ e (body .put-body .ensures .1 .0) _ _ _ (said-yes (asked .before .set-good .ensures) (passed .before .if1 .left))
+    (sym (fits-within _ _ _ (f .few-yards) (f .few-farms)) ∙ fits) (written .0) (written .1)
+
+returns-4 : tie.Need-returns-4
+returns-4 c = let arm = c .before in
+    refuses _ _ _ (unread _ _ _ _ (sym (arm .before .before .read .ensures) ∙ ap meaning (arm .k .given .1)))
 
 pub price-spec : {M : Type 1} → statement M
-price-spec = tie.close (tie.spec read-requires price-after-requires same-length returns)
+price-spec =
+    tie.close
+    (tie.spec
+    read-requires
+    enum-known-yards
+    set-good-requires
+    plan-fits-requires
+    returns
+    returns-2
+    put-body-requires
+    cast-put-end
+    put-end-requires
+    enum-known-k
+    same-length
+    returns-3
+    returns-4)

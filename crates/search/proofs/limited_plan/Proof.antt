@@ -1,25 +1,21 @@
--- `limited_plan` meets its contract: what follows reading gives `limitedPlanning`, and what is promised follows from its two equations.
+-- `limited_plan` meets its contract: what both plans go through gives `limitedPlanning`, and what is promised follows from its two equations.
 use Rattle.price.proofs.PricingLaws.{as-outcome}
-use Rattle.search.proofs.PlanningLaws.{read-as, limited-after}
+use Rattle.search.proofs.PlanningLaws.{limited-planning}
 use Rattle.search.proofs.PromiseLaws.{limited-promises}
 use borrow.Author.Needs.{needs}
 use Rattle.search.proofs.limited_plan.Statement.{statement}
 use Rattle.search.proofs.limited_plan.Tie as tie
 
-read-requires : tie.Need-read-requires
-read-requires c κs = search needs
-
-plan-after-requires : tie.Need-plan-after-requires
-plan-after-requires c κs = read-as _ (c .before .read .result) (c .before .read .ensures)
+plan-with-requires : tie.Need-plan-with-requires
+plan-with-requires c κs = search needs
 
 same-length : tie.Need-same-length
 same-length c = search needs
 
 returns : tie.Need-returns
-returns c = let asked = c .before .before .before .before in
-    let planned = c .before .before .plan-after in
-    limited-promises _ (planned .result) (asked .before .before .before .args .area .now) _ _
-    (as-outcome (limited-after _ (asked .read .result) _ _ (asked .read .ensures)) (planned .result) _ _ (planned .ensures))
+returns c = let made = c .before .before .plan-with in
+    limited-promises _ (made .result) (c .before .before .before .before .before .before .args .area .now) _ _
+    (as-outcome (limited-planning _ _ _) (made .result) _ _ (made .ensures))
 
 pub limited-plan-spec : {M : Type 1} → statement M
-limited-plan-spec = tie.close (tie.spec read-requires plan-after-requires same-length returns)
+limited-plan-spec = tie.close (tie.spec plan-with-requires same-length returns)

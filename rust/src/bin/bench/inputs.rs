@@ -1,21 +1,20 @@
 //! The sheets that the calls are timed on.
-use planner::format::{MOST_FARMS, MOST_YARDS, RECORD};
+use planner::format::{HIGHEST_HAUL, MOST_FARMS, MOST_YARDS, RECORD};
 use planner::random::Random;
 use planner::samples::{self, Sample};
 
+/// So many that the processor does not learn by heart which way each branch goes on each.
+pub const SHEETS: u64 = 120;
 /// The side of the square that yards and farms lie in, in cents of haul.
 pub const SPAN: u32 = 700_000;
 /// With high fees open plans have few yards, with low ones many, by many moves.
-const HIGH_FEE: u32 = 3_000_000;
-const LOW_FEE: u32 = 300_000;
-const HIGH_FEE_SEEDS: [u64; 4] = [1, 2, 3, 4];
-const LOW_FEE_SEEDS: [u64; 3] = [5, 6, 7];
+pub const FEES: [u32; 2] = [3_000_000, 300_000];
+/// Hauls of so few cents are 0 in the units in which question 6 is asked first.
+const LOW_HAUL: u32 = 20;
 
+/// Accepted sheets of full size, in which high and low fees take turns.
 pub fn full_sheets() -> Vec<Sample> {
-    let high_fees = HIGH_FEE_SEEDS.map(|seed| (seed, HIGH_FEE));
-    let low_fees = LOW_FEE_SEEDS.map(|seed| (seed, LOW_FEE));
-    let sheets = high_fees.into_iter().chain(low_fees);
-    sheets.map(|(seed, fee)| full_sheet(seed, fee)).collect()
+    (0..SHEETS).map(|seed| full_sheet(seed, FEES[(seed % 2) as usize])).collect()
 }
 
 fn full_sheet(seed: u64, highest_fee: u32) -> Sample {
@@ -23,12 +22,29 @@ fn full_sheet(seed: u64, highest_fee: u32) -> Sample {
     Sample { name: format!("seed {seed}, fees up to {highest_fee}"), sheet: table.sheet(), reading: None }
 }
 
-/// The sheet with one byte changed in its last record.
-pub fn refused(input: &Sample) -> [Sample; 2] {
-    let last = input.sheet.len() - RECORD;
-    [("byte 3 of the last record is wrong", last + 3), ("the last amount is too high", last + 7)].map(|(name, at)| {
-        let mut sheet = input.sheet.clone();
-        sheet[at] = 1;
-        Sample { name: name.to_string(), sheet, reading: None }
-    })
+/// Accepted sheets of full size on which question 6 has to be asked of every two yards by the cent.
+pub fn low_hauls() -> Vec<Sample> {
+    let sheet = |seed| {
+        let table = samples::within_threefold(&mut Random::new(seed), MOST_YARDS, MOST_FARMS, LOW_HAUL, LOW_HAUL);
+        Sample { name: format!("low hauls, seed {seed}"), sheet: table.sheet(), reading: None }
+    };
+    (0..SHEETS).map(sheet).collect()
+}
+
+/// Each sheet with a fault in its last record: the question that it fails, and what is wrong.
+pub fn refused(inputs: &[Sample]) -> [(u8, &'static str, Vec<Sample>); 3] {
+    let last = |change: fn(&mut [u8])| {
+        let changed = |input: &Sample| {
+            let mut sheet = input.sheet.clone();
+            let start = sheet.len() - RECORD;
+            change(&mut sheet[start..]);
+            Sample { name: format!("{}, last record changed", input.name), sheet, reading: None }
+        };
+        inputs.iter().map(changed).collect()
+    };
+    [
+        (2, "byte 3 of the last record is wrong", last(|record| record[3] = 1)),
+        (5, "the last haul is too high", last(|record| record[4..].copy_from_slice(&(HIGHEST_HAUL + 1).to_le_bytes()))),
+        (6, "the last haul breaks the rule", last(|record| record[4..].copy_from_slice(&HIGHEST_HAUL.to_le_bytes()))),
+    ]
 }

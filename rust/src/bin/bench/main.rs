@@ -1,13 +1,17 @@
 //! How long each call takes: the proved library (ours), document 01 to the letter (literal), and plain Rust made for speed
-//! (fast). Before anything is timed, the three must give the same answers and the same areas.
+//! (fast). Before a call is timed, the three must give the same answers and the same areas.
 mod calls;
 mod inputs;
 mod printing;
 mod timing;
 
-use calls::{compare, compare_refused, CALLS, SEARCHES};
-use planner::samples;
+use calls::{compare, Call, CALLS, OPEN_PLAN};
+use inputs::{FEES, SHEETS, SPAN};
+use planner::format::{MOST_FARMS, MOST_YARDS};
+use planner::samples::{self, Sample};
+use printing::{print_call, print_four_loops, print_heading};
 use std::process::ExitCode;
+use timing::{LONG_PASSES, PASSES};
 
 fn main() -> ExitCode {
     match bench() {
@@ -20,20 +24,28 @@ fn main() -> ExitCode {
 }
 
 fn bench() -> Result<(), String> {
-    let inputs = inputs::full_sheets();
-    let drops = samples::kept().map_err(|fault| format!("sheets/drops: {fault}"))?;
-    for input in &inputs {
-        CALLS.iter().try_for_each(|&call| compare(call, input))?;
+    let full = inputs::full_sheets();
+    println!("{SHEETS} sheets of {MOST_YARDS} yards and {MOST_FARMS} farms in a square of side {SPAN}, fees up to {FEES:?} in turn.");
+    println!("Microseconds of whole calls, made on one sheet after the other: mean over the sheets; of a sheet the median of");
+    println!("{PASSES} passes, {LONG_PASSES} of literal and of four loops. Ratios: of the means (lowest to highest of a sheet).");
+    println!("Ours: the proved library. Literal: document 01 to the letter in Rust. Fast: plain Rust made for speed.");
+    print_heading("Accepted sheets");
+    for call in CALLS {
+        line(&call.name(), call, &full, None)?;
     }
-    drops.iter().try_for_each(|input| compare(SEARCHES[0], input))?;
-    let refused = inputs::refused(&inputs[0]);
-    refused.iter().try_for_each(compare_refused)?;
-    printing::print_inputs(&inputs);
-    let sheets = timing::time(CALLS, &inputs, timing::ROUNDS);
-    printing::print_calls(&sheets);
-    printing::print_without_rule(&sheets);
-    printing::print_without_reading(&sheets);
-    printing::print_drops(&drops);
-    printing::print_refused(&refused);
+    print_four_loops(&full)?;
+    print_heading("Other sheets");
+    line("read, every two yards by the cent", Call::Read, &inputs::low_hauls(), None)?;
+    let drops = samples::kept().map_err(|fault| format!("sheets/drops: {fault}"))?;
+    line("open plan of sheets/drops", OPEN_PLAN, &drops, None)?;
+    for (number, name, sheets) in inputs::refused(&full) {
+        line(&format!("read, {name}"), Call::Read, &sheets, Some(number))?;
+    }
+    Ok(())
+}
+
+fn line(name: &str, call: Call, inputs: &[Sample], refused: Option<u8>) -> Result<(), String> {
+    compare(call, inputs, refused)?;
+    print_call(name, call, inputs);
     Ok(())
 }

@@ -1,6 +1,7 @@
 -- `prices::over` meets its contract: costs have the same order as signed numbers.
 use native.Mathlib.Omega.{arith}
-use Rattle.search.proofs.ShiftingLaws.{signed-le, signed-gt}
+use mir.Syntax.{w32}
+use Rattle.model.proofs.SignedLaws.{signed-le, signed-gt}
 use borrow.Author.Needs.{needs}
 use Rattle.search.proofs.prices.over.Statement.{statement}
 use Rattle.search.proofs.prices.over.Tie as tie
@@ -13,11 +14,11 @@ cast-if1-2 c = search needs
 
 sub-result : tie.Need-sub-result
 sub-result c = let s = c .before in
-    omega (arith, signed-gt (s .args .cost) (s .args .other) (s .pre .0) (s .pre .1) (c .if1 .left))
+    omega (arith, signed-gt w32 (s .args .cost) (s .args .other) (omega (arith, s .pre .0)) (omega (arith, s .pre .1)) (c .if1 .left))
 
 returns : tie.Need-returns
 returns c = let s = c .before in
-    omega (arith, signed-le (s .args .cost) (s .args .other) (s .pre .0) (s .pre .1) (c .if1 .taken))
+    omega (arith, signed-le w32 (s .args .cost) (s .args .other) (omega (arith, s .pre .0)) (omega (arith, s .pre .1)) (c .if1 .taken))
 
 returns-2 : tie.Need-returns-2
 returns-2 c = search needs

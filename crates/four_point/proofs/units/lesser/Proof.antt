@@ -1,0 +1,24 @@
+-- `units::lesser` meets its contract: so small numbers have the same order as signed ones.
+use native.Mathlib.Omega.{arith}
+use mir.Syntax.{w16}
+use Rattle.model.proofs.SignedLaws.{signed-le, signed-gt}
+use borrow.Author.Needs.{needs}
+use Rattle.four_point.proofs.units.lesser.Statement.{statement}
+use Rattle.four_point.proofs.units.lesser.Tie as tie
+
+cast-if1 : tie.Need-cast-if1
+cast-if1 c = search needs
+
+cast-if1-2 : tie.Need-cast-if1-2
+cast-if1-2 c = search needs
+
+returns : tie.Need-returns
+returns c = let s = c .before in
+    omega (arith, signed-le w16 (s .args .x) (s .args .y) (omega (arith, s .pre)) (omega (arith, s .pre)) (c .if1 .taken))
+
+returns-2 : tie.Need-returns-2
+returns-2 c = let s = c .before in
+    omega (arith, signed-gt w16 (s .args .x) (s .args .y) (omega (arith, s .pre)) (omega (arith, s .pre)) (c .if1 .left))
+
+pub lesser-spec : {M : Type 1} → statement M
+lesser-spec = tie.close (tie.spec cast-if1 cast-if1-2 returns returns-2)

@@ -1,2 +1,0 @@
--- Timing: what the calls of the benchmark give.
-pub mod Timing
