@@ -14,7 +14,7 @@ const KEPT: usize = 13;
 /// Of each kept sheet with fees a little changed, which question 6 does not look at.
 const OTHER_FEES: u64 = 12;
 /// At least so many of them drop a yard too.
-const LEAST_DROPS: u64 = 60;
+const LEAST_DROPS: u64 = 100;
 /// Sheets that one run of the search looks at.
 const TRIES: u64 = 300_000;
 

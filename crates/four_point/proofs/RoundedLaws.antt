@@ -6,12 +6,12 @@ use native.Mathlib.Omega.{arith}
 use mathlib.Core.Path.{_≡_, sym, ap, _∙_}
 use mathlib.Core.Bool.{true}
 use mathlib.Core.List.{List}
-use borrow.Author.Tests.{ltb-true, lt-ltb}
+use borrow.Author.Tests.{ltb-true}
 use lib.ListN.{length, getD, set}
 use lib.Dec.{ltb}
 use lib.Seq.{getD-set-same, getD-set-other}
 use Rattle.model.specs.QuickMetric.{spread, routeFrom}
-use Rattle.model.proofs.LoopLaws.{up-to, all-at, all-from}
+use Rattle.model.proofs.LoopLaws.{up-to, all-at}
 use Rattle.model.proofs.SumLaws.{sum-none, sum-more, sum-cong, sum-zero, sum-term}
 use Rattle.model.proofs.QuickMetricLaws.{rule-quick, from-at, spread-at}
 use Rattle.four_point.specs.Table.{rowPlaces, mostFacilities, costLimit, row, costsBelow}
@@ -43,17 +43,11 @@ pub below-limit : (table : List ℕ) (count : ℕ) → aboveLimit table count �
 unfolding aboveLimit
 below-limit table count none k l = omega (arith, sum-term count (λ k. getD table k 0 / costLimit) k l)
 
-module _ (table : List ℕ) (m : ℕ) where
-  pub costs-low : aboveLimit table (rowPlaces * m) ≡ 0 → costsBelow table m ≡ true
-  unfolding costsBelow
-  costs-low none =
-      all-from (λ k. ltb (getD table k 0) costLimit) (rowPlaces * m) (λ k l. lt-ltb (getD table k 0) costLimit (below-limit table (rowPlaces * m) none k l))
-
-  pub low-costs : costsBelow table m ≡ true → aboveLimit table (rowPlaces * m) ≡ 0
-  unfolding costsBelow aboveLimit
-  low-costs e =
-      sum-cong (rowPlaces * m) (λ k l. let b : getD table k 0 < costLimit = ltb-true (getD table k 0) costLimit (all-at (λ k. ltb (getD table k 0) costLimit) (rowPlaces * m) k e l) in omega arith)
-      ∙ sum-zero (rowPlaces * m)
+pub low-costs : (table : List ℕ) (m : ℕ) → costsBelow table m ≡ true → aboveLimit table (rowPlaces * m) ≡ 0
+unfolding costsBelow aboveLimit
+low-costs table m e =
+    sum-cong (rowPlaces * m) (λ k l. let b = ltb-true (getD table k 0) costLimit (all-at (λ k. ltb (getD table k 0) costLimit) (rowPlaces * m) k e l) in omega arith)
+    ∙ sum-zero (rowPlaces * m)
 
 -- ---- what is required of the rows
 

@@ -14,6 +14,11 @@ use Rattle.model.proofs.QuickMetricLaws.{quick-metric}
 use Rattle.four_point.specs.Table.{rowPlaces, mostFacilities, costLimit, tableInstance, costsBelow, keepsRule}
 use Rattle.four_point.specs.Rounded.{pairKeeps, rowKeeps}
 
+pub costs-low : (table : List ℕ) (m : ℕ) → ((k : ℕ) → k < rowPlaces * m → getD table k 0 < costLimit) → costsBelow table m ≡ true
+unfolding costsBelow
+costs-low table m low =
+    all-from (λ k. ltb (getD table k 0) costLimit) (rowPlaces * m) (λ k l. lt-ltb (getD table k 0) costLimit (low k l))
+
 module _ (table : List ℕ) (m n : ℕ) where
   pub many-facilities : mostFacilities < m → keepsRule table m n ≡ false
   unfolding keepsRule
@@ -38,9 +43,7 @@ module _ (table : List ℕ) (m n : ℕ) where
         cost-too-high e = asked ∙ rw e
 
         pub keeps-metric : ((k : ℕ) → k < rowPlaces * m → getD table k 0 < costLimit) → keepsRule table m n ≡ metric (tableInstance table m n)
-        unfolding costsBelow
-        keeps-metric low =
-            asked ∙ rw (all-from (λ k. ltb (getD table k 0) costLimit) (rowPlaces * m) (λ k l. lt-ltb (getD table k 0) costLimit (low k l)))
+        keeps-metric low = asked ∙ rw (costs-low table m low)
 
         pub every-pair : costsBelow table m ≡ true → allBelow m (rowKeeps table n) ≡ keepsRule table m n
         unfolding rowKeeps pairKeeps quickMetric tableInstance

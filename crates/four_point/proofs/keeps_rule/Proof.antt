@@ -5,8 +5,8 @@ use native.Mathlib.Omega.{arith}
 use lib.ListN.{length-replicate}
 use Rattle.model.proofs.Bools.{fails}
 use Rattle.four_point.specs.Table.{rowPlaces, mostFacilities}
-use Rattle.four_point.proofs.TableLaws.{many-facilities, many-clients, rows-missing, cost-too-high, every-pair}
-use Rattle.four_point.proofs.RoundedLaws.{costs-low, low-costs, rounded-of}
+use Rattle.four_point.proofs.TableLaws.{costs-low, many-facilities, many-clients, rows-missing, cost-too-high, every-pair}
+use Rattle.four_point.proofs.RoundedLaws.{below-limit, low-costs, rounded-of}
 use borrow.Author.Needs.{needs}
 use Rattle.four_point.proofs.keeps_rule.Statement.{statement}
 use Rattle.four_point.proofs.keeps_rule.Tie as tie
@@ -52,7 +52,7 @@ returns-5 c = let round = c .before .before .before .before in
     let passed = round .before .before in
     c .every-pair .ensures
     ∙ every-pair _ _ _ (passed .before .before .if1 .left) (passed .before .if2 .left) (passed .if3 .left)
-    (costs-low _ _ (sym (round .round .ensures .0) ∙ c .before .before .if4 .left))
+    (costs-low _ _ (below-limit _ _ (sym (round .round .ensures .0) ∙ c .before .before .if4 .left)))
 
 pub keeps-rule-spec : {M : Type 1} → statement M
 keeps-rule-spec =
