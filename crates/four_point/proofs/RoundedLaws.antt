@@ -3,15 +3,15 @@
 use Prim.Native.Nat.{ℕ, _+_, _-_, _*_, _/_, _%_, _≤_, _<_}
 use native.Mathlib.Nat.{not-suc-le-zero}
 use native.Mathlib.Omega.{arith}
-use mathlib.Core.Path.{_≡_, sym, ap, _∙_}
+use mathlib.Core.Path.{_≡_, refl, sym, ap, _∙_}
 use mathlib.Core.Bool.{true}
 use mathlib.Core.List.{List}
 use borrow.Author.Tests.{ltb-true}
 use lib.ListN.{length, getD, set}
 use lib.Dec.{ltb}
-use lib.Seq.{getD-set-same, getD-set-other}
 use Rattle.model.specs.QuickMetric.{spread, routeFrom}
-use Rattle.model.proofs.LoopLaws.{up-to, all-at}
+use Rattle.model.proofs.LoopLaws.{all-at}
+use Rattle.model.proofs.PlaceLaws.{front-more}
 use Rattle.model.proofs.SumLaws.{sum-none, sum-more, sum-cong, sum-zero, sum-term}
 use Rattle.model.proofs.QuickMetricLaws.{rule-quick, from-at, spread-at}
 use Rattle.four_point.specs.Table.{rowPlaces, mostFacilities, costLimit, row, costsBelow}
@@ -24,10 +24,7 @@ in-units-none table units k l = absurd (not-suc-le-zero l)
 
 pub in-units-more : (k : ℕ) (table units : List ℕ) → k < length units → InUnits k table units
     → InUnits (k + 1) table (set units k (getD table k 0 / unit % unitLimit))
-in-units-more k table units room before j l =
-    up-to (λ j. getD (set units k (getD table k 0 / unit % unitLimit)) j 0 ≡ getD table j 0 / unit % unitLimit) k
-    (λ j b. getD-set-other units k j (getD table k 0 / unit % unitLimit) 0 (λ o. omega arith) ∙ before j b)
-    (getD-set-same units k (getD table k 0 / unit % unitLimit) 0 room) j (omega arith)
+in-units-more k table units room before = front-more (λ j. getD table j 0 / unit % unitLimit) k _ units room refl before
 
 -- ---- the limit
 

@@ -1,6 +1,7 @@
 pub mod Bools
 pub mod SignedLaws
 pub mod LoopLaws
+pub mod PlaceLaws
 pub mod PassingLaws
 pub mod SumLaws
 pub mod TestSetLaws

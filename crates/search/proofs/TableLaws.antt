@@ -6,13 +6,13 @@ use native.Mathlib.Omega.{arith}
 use mathlib.Core.Path.{_≡_, refl, sym, ap, ap₂, subst, _∙_}
 use mathlib.Core.Bool.{Bool}
 use mathlib.Core.List.{List}
-use lib.ListN.{length, getD, set, replicate, length-replicate, getD-replicate, List·getD-eq-default}
-use lib.Seq.{getD-set-same, getD-set-other}
+use lib.ListN.{length, getD, set, replicate, length-replicate, getD-replicate}
+use lib.Seq.{getD-set-other}
 use Rattle.model.specs.Loops.{on, sum}
 use Rattle.model.specs.Sets.{member}
 use Rattle.model.specs.Instance.{nearest, openingCost, serviceCost, totalCost}
 use Rattle.model.specs.Plans.{openCost, limitedCost}
-use Rattle.model.proofs.LoopLaws.{up-to}
+use Rattle.model.proofs.PlaceLaws.{front-more, same-most}
 use Rattle.model.proofs.SumLaws.{sum-cong, sum-zero, on-zero}
 use Rattle.model.proofs.CostLaws.{service-once, same-service, same-opening}
 use Rattle.sheet.specs.Records.{recordAt}
@@ -26,15 +26,7 @@ use Rattle.search.specs.Standing.{Fees}
 
 -- ---- filling a table
 
--- a place more of a table that is filled by f
-pub filled-more : (f : ℕ → ℕ) (i x : ℕ) (table : List ℕ) → i < length table → x ≡ f i → ((k : ℕ) → k < i → getD table k 0 ≡ f k)
-    → (k : ℕ) → k < i + 1 → getD (set table i x) k 0 ≡ f k
-filled-more f i x table room e h k l =
-    up-to (λ k. getD (set table i x) k 0 ≡ f k) i
-    (λ k l. getD-set-other table i k x 0 (λ q. omega arith) ∙ h k l)
-    (getD-set-same table i x 0 room ∙ e) k (omega arith)
-
--- and nothing changes behind it
+-- a place more, and nothing changes behind it
 pub behind-more : (i x : ℕ) (before table : List ℕ) → Behind i before table → Behind (i + 1) before (set table i x)
 behind-more i x before table h k l = getD-set-other table i k x 0 (λ q. omega arith) ∙ h k (omega arith)
 
@@ -46,7 +38,7 @@ module _ (s : List ℕ) (from : ℕ) where
   pub holds-more : (i x : ℕ) (table : List ℕ) → i < length table → x ≡ amountAt s (from + i) → Holds s from i table
       → Holds s from (i + 1) (set table i x)
   unfolding amountAt
-  holds-more i x table room e h = filled-more (λ k. recordAt s (from + k) .amount) i x table room e h
+  holds-more i x table room e h = front-more (λ k. recordAt s (from + k) .amount) i x table room e h
 
 -- ---- tables for the search
 
@@ -55,19 +47,12 @@ pub blank : (m n : ℕ) → m ≤ 32 → n ≤ 128 → Blank m n (replicate 32 2
 blank m n yards farms =
     record {
       opening-room = omega (arith, length-replicate {A = ℕ} 32 2000000000);
-      opening-high = all-same 32 2000000000;
+      opening-high = same-most 32 2000000000;
       service-room = omega (arith, length-replicate {A = ℕ} 4128 0, few-hauls m n yards farms);
-      service-low = λ k. omega (arith, all-same 4128 0 k);
+      service-low = λ k. omega (arith, same-most 4128 0 k);
       kept-room = omega (arith, length-replicate {A = ℕ} 1344 0);
       kept-zero = λ k l. getD-replicate {A = ℕ} 1344 k 0 0 l;
     }
-  where
-    all-same : (n x k : ℕ) → getD (replicate n x) k 0 ≤ x
-    all-same n x k =
-        elim (decLt k n) [
-          | yes l ↦ omega (arith, getD-replicate {A = ℕ} n k x 0 l)
-          | no g ↦ omega (arith, List·getD-eq-default (replicate n x) 0 {n = k} (omega (arith, length-replicate {A = ℕ} n x)))
-        ]
 
 high-by : {m : ℕ} (before opening : List ℕ) → ((i : ℕ) → i < m → getD opening i 0 ≤ 50000000) → AtMost 2000000000 before
     → Behind m before opening → AtMost 2000000000 opening

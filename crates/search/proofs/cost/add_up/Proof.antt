@@ -4,8 +4,8 @@ use Prim.Native.Nat.{_+_, _-_, _≤_}
 use native.Mathlib.Nat.{not-suc-le-zero}
 use native.Mathlib.Omega.{arith}
 use lib.ListN.{length, getD, length-set}
+use Rattle.model.proofs.PlaceLaws.{front-more}
 use Rattle.search.specs.Adding.{Added}
-use Rattle.search.proofs.TableLaws.{filled-more}
 use Rattle.search.proofs.cost.add_up.Statement.{statement}
 use Rattle.search.proofs.cost.add_up.Tie as tie
 
@@ -56,7 +56,7 @@ loop-again c = let a = c .before .before .before .before .args in
     let l = c .before .before .before .loop in (
       omega arith,
       simp length-set (l .inv .1),
-      filled-more (λ k. a .fees + getD (a .opening .now) k 0 + getD (a .kept .now) (256 + k) 0) (l .i) _ (l .costs)
+      front-more (λ k. a .fees + getD (a .opening .now) k 0 + getD (a .kept .now) (256 + k) 0) (l .i) _ (l .costs)
           (omega (arith, c .before .before .before .before .pre .costs-room, l .inv .1)) refl (l .inv .2),
     )
 

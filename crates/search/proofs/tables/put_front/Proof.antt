@@ -4,8 +4,9 @@ use Prim.Native.Nat.{_≤_, _-_}
 use native.Mathlib.Nat.{not-suc-le-zero}
 use native.Mathlib.Omega.{arith}
 use lib.ListN.{length, length-set}
+use Rattle.model.proofs.PlaceLaws.{front-more}
 use Rattle.search.specs.Amounts.{Behind, Front}
-use Rattle.search.proofs.TableLaws.{filled-more, behind-more}
+use Rattle.search.proofs.TableLaws.{behind-more}
 use Rattle.search.proofs.tables.put_front.Statement.{statement}
 use Rattle.search.proofs.tables.put_front.Tie as tie
 
@@ -34,7 +35,7 @@ loop-again : tie.Need-loop-again Inv-loop μ-loop
 loop-again c = let l = c .before .loop in (
   omega arith,
   simp length-set (l .inv .1),
-  filled-more (λ k. c .before .before .args .x) (l .i) _ (l .table) (omega arith) refl (l .inv .2),
+  front-more (λ k. c .before .before .args .x) (l .i) _ (l .table) (omega arith) refl (l .inv .2),
   behind-more (l .i) _ (c .before .before .args .table .now) (l .table) (l .inv .3),
 )
 

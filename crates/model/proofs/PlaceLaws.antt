@@ -1,0 +1,37 @@
+-- The places of a table: as a loop fills them one by one, with one of them changed, and where all hold the same.
+use Prim.Native.Nat.{ℕ, _+_, _≤_, _<_}
+use native.Mathlib.Omega.{arith}
+use native.Mathlib.Decide.{decLt}
+use mathlib.Core.Path.{_≡_, sym, subst, _∙_}
+use mathlib.Core.List.{List}
+use lib.ListN.{length, getD, set, replicate, length-replicate, getD-replicate, List·getD-eq-default}
+use lib.Seq.{getD-set-same, getD-set-other}
+use Rattle.model.proofs.LoopLaws.{up-to}
+
+-- a place more of a table that is filled by f
+pub front-more : (f : ℕ → ℕ) (i x : ℕ) (table : List ℕ) → i < length table → x ≡ f i → ((k : ℕ) → k < i → getD table k 0 ≡ f k)
+    → (k : ℕ) → k < i + 1 → getD (set table i x) k 0 ≡ f k
+front-more f i x table room e h k l =
+    up-to (λ k. getD (set table i x) k 0 ≡ f k) i
+    (λ k l. getD-set-other table i k x 0 (λ q. omega arith) ∙ h k l)
+    (getD-set-same table i x 0 room ∙ e) k (omega arith)
+
+-- what holds of every place and of x holds of every place once one is x
+pub each-set : (P : ℕ → Type 0) (i x : ℕ) (table : List ℕ) → i < length table → P x → ((k : ℕ) → P (getD table k 0))
+    → (k : ℕ) → P (getD (set table i x) k 0)
+each-set P i x table room at h k =
+    elim (decLt k i) [
+      | yes l ↦ subst P (sym (getD-set-other table i k x 0 (λ q. omega arith))) (h k)
+      | no g ↦ elim (decLt i k) [
+        | yes l ↦ subst P (sym (getD-set-other table i k x 0 (λ q. omega arith))) (h k)
+        | no f ↦ let e : i ≡ k = omega arith in subst (λ j. P (getD (set table i x) j 0)) e (subst P (sym (getD-set-same table i x 0 room)) at)
+      ]
+    ]
+
+-- a table of n places that hold x
+pub same-most : (n x k : ℕ) → getD (replicate n x) k 0 ≤ x
+same-most n x k =
+    elim (decLt k n) [
+      | yes l ↦ omega (arith, getD-replicate {A = ℕ} n k x 0 l)
+      | no g ↦ omega (arith, List·getD-eq-default (replicate n x) 0 {n = k} (omega (arith, length-replicate {A = ℕ} n x)))
+    ]
