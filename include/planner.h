@@ -1,10 +1,11 @@
 /*
  * The yard planner for C: reads haul sheets, prices sets of yards, makes open and limited plans (document 01).
  *
- * Link target/staticlib/libexports.a, which `rt staticlib exports` proves and writes (x86-64; it needs memset and nothing else).
- * What each call promises is its contract in crates/exports/src/lib.rt: its answer and the area after it for every input, and for
- * the plans that no move lowers the cost and that no rival is far cheaper (an open plan costs at most three times a rival's set, the
- * hauls of a limited plan are at most five times those of a rival with as many yards or fewer).
+ * Link target/staticlib/libexports.a, which `rt staticlib exports` proves and writes (x86-64; it needs memcpy and memset and nothing else).
+ * What each call promises is its contract in crates/exports/src/lib.rt: its answer and the area after it for every input; that a priced
+ * plan has the set given and a limited plan k yards; and for both plans that no move lowers the cost and that no rival is far
+ * cheaper (an open plan costs at most three times a rival's set, the hauls of a limited plan are at most five times those of a rival
+ * with as many yards or fewer).
  *
  * Every call ends, whatever the bytes of the sheet, the set, k and the lengths are, and either gives its whole result or refuses by
  * the number of the first question of document 01 that is answered no. The caller sees to three things that no proof can: no

@@ -26,15 +26,24 @@ pub const LITERAL: Calls = Calls {
     limited_plan: literal::limited_plan,
 };
 
+/// With sums of 64 bits, as the library has them.
 pub const FAST: Calls = Calls {
     name: "fast",
     read: fast::read,
     price: fast::price,
-    open_plan: fast::open_plan,
-    limited_plan: fast::limited_plan,
+    open_plan: fast::open_plan::<u64>,
+    limited_plan: fast::limited_plan::<u64>,
 };
 
-pub const ALL: [Calls; 3] = [LIBRARY, LITERAL, FAST];
+pub const FAST_32: Calls = Calls {
+    name: "fast, sums of 32 bits",
+    read: fast::read,
+    price: fast::price,
+    open_plan: fast::open_plan::<u32>,
+    limited_plan: fast::limited_plan::<u32>,
+};
+
+pub const ALL: [Calls; 4] = [LIBRARY, LITERAL, FAST, FAST_32];
 
 /// A call that is lent an area for a plan.
 #[derive(Clone, Copy, Debug)]

@@ -9,11 +9,13 @@ mod prices;
 mod rule;
 mod search;
 mod sheet;
+mod sum;
 
 use crate::format::least_area;
 use crate::{Answer, Counts, Written};
 use search::{limited_plan_of, open_plan_of};
 use sheet::Hauls;
+use sum::Sum;
 
 /// The counts of yards and farms, or the number of the first question of 1 to 6 that is answered no.
 pub fn read(sheet: &[u8]) -> Answer<Counts> {
@@ -33,23 +35,23 @@ pub fn price(sheet: &[u8], set: u32, area: &mut [u8]) -> Answer<Written> {
     Ok(price_of(&hauls, set, area))
 }
 
-/// Writes the open plan to the front of the area.
-pub fn open_plan(sheet: &[u8], area: &mut [u8]) -> Answer<Written> {
+/// Writes the open plan to the front of the area, by sums of 64 or of 32 bits.
+pub fn open_plan<S: Sum>(sheet: &[u8], area: &mut [u8]) -> Answer<Written> {
     let mut hauls = Hauls::none();
     hauls.read(sheet)?;
     large_enough(area, &hauls)?;
-    Ok(open_plan_of(&hauls, area))
+    Ok(open_plan_of::<S>(&hauls, area))
 }
 
 /// Writes the limited plan for k yards to the front of the area.
-pub fn limited_plan(sheet: &[u8], k: usize, area: &mut [u8]) -> Answer<Written> {
+pub fn limited_plan<S: Sum>(sheet: &[u8], k: usize, area: &mut [u8]) -> Answer<Written> {
     let mut hauls = Hauls::none();
     hauls.read(sheet)?;
     if k < 1 || k > hauls.yards {
         return Err(7);
     }
     large_enough(area, &hauls)?;
-    Ok(limited_plan_of(&hauls, k, area))
+    Ok(limited_plan_of::<S>(&hauls, k, area))
 }
 
 /// Prices a set that question 8 accepts, in an area that question 9 accepts.

@@ -1,5 +1,5 @@
 //! The yard planner for Rust (`library`), and what it is held against: the whole of document 01 a second time (`literal`), the
-//! same as fast as plain Rust makes it (`fast`), all three side by side (`calls`), question 6 alone by its four loops
+//! same as fast as plain Rust makes it (`fast`), all side by side (`calls`), question 6 alone by its four loops
 //! (`four_loops`), and sheets of every kind (`samples`).
 //! `csv` and `words` are the tool `sheet`. `format`, `table` and `random` serve the others: the format's constants, a sheet as a
 //! table, seeded numbers.

@@ -1,4 +1,4 @@
-/* The planner from C: reads document 01's sheet S, prices {0, 2}, and makes both plans. */
+/* The planner from C: reads document 01's sheet S, prices {0, 2}, and makes both plans; and an open plan at the highest fee and haul. */
 #include "planner.h"
 
 #include <stdio.h>
@@ -13,7 +13,16 @@ static const uint8_t sheet[96] = {
     0x48, 0, 2, 0, 9, 0, 0, 0, 0x48, 1, 2, 0, 5, 0, 0, 0, 0x48, 2, 2, 0, 1, 0, 0, 0, /* farm 2: 9, 5, 1 */
 };
 
+/* one yard and one farm, at the highest fee and haul: 50,000,000 and 1,000,000 */
+static const uint8_t dearest[16] = {0x59, 0, 0, 0, 0x80, 0xF0, 0xFA, 0x02, 0x48, 0, 0, 0, 0x40, 0x42, 0x0F, 0x00};
+
 static uint8_t area[PLANNER_MOST_AREA];
+
+/* The amount of the record that begins at a byte: bytes 4 to 7, lowest first. */
+static uint32_t amount(const uint8_t *record)
+{
+    return (uint32_t)record[4] | (uint32_t)record[5] << 8 | (uint32_t)record[6] << 16 | (uint32_t)record[7] << 24;
+}
 
 static void show(const char *call, uint64_t result)
 {
@@ -23,7 +32,7 @@ static void show(const char *call, uint64_t result)
     }
     printf("%s: bytes %zu, moves %u", call, planner_bytes(result), (unsigned)planner_moves(result));
     for (size_t at = 0; at < planner_bytes(result); at += 8)
-        printf("; %c %u %u %u", area[at], area[at + 1], area[at + 2], area[at + 4]);
+        printf("; %c %u %u %u", area[at], area[at + 1], area[at + 2], (unsigned)amount(area + at));
     printf("\n");
 }
 
@@ -51,14 +60,19 @@ int main(void)
     show_counts("read", planner_read(sheet, sizeof sheet));
     show_counts("read, one byte less", planner_read(sheet, sizeof sheet - 1));
     printf("farm 1: bytes %zu", planner_farm_len(sheet, sizeof sheet, 1));
-    for (size_t at = 4; at < planner_farm_len(sheet, sizeof sheet, 1); at += 8)
-        printf(" %u", planner_farm_byte(sheet, sizeof sheet, 1, at));
+    for (size_t at = 0; at < planner_farm_len(sheet, sizeof sheet, 1); at += 8) {
+        uint8_t haul[8];
+        for (size_t byte = 0; byte < sizeof haul; byte++)
+            haul[byte] = planner_farm_byte(sheet, sizeof sheet, 1, at + byte);
+        printf(" %u", (unsigned)amount(haul));
+    }
     printf("\n");
     show("pricing {0, 2}", planner_price(sheet, sizeof sheet, 1u << 0 | 1u << 2, area, sizeof area));
     show("open plan", planner_open_plan(sheet, sizeof sheet, area, sizeof area));
     show("limited plan, k = 2", planner_limited_plan(sheet, sizeof sheet, 2, area, sizeof area));
     show("limited plan, k = 4", planner_limited_plan(sheet, sizeof sheet, 4, area, sizeof area));
     show("pricing nothing", planner_price(sheet, sizeof sheet, 0, area, sizeof area));
+    show("open plan, dearest sheet", planner_open_plan(dearest, sizeof dearest, area, sizeof area));
     show_area_after_refusal();
     return 0;
 }

@@ -6,7 +6,7 @@ use mathlib.Core.Path.{_≡_}
 use mathlib.Core.Bool.{Bool, true}
 use Rattle.model.specs.Least.{any}
 use Rattle.model.specs.Sets.{count, plus, minus, trade, member, with, without}
-use Rattle.model.specs.Instance.{Instance, metric, serviceCost}
+use Rattle.model.specs.Instance.{Instance, metric, serviceCost, totalCost}
 use Rattle.model.specs.Neighbours.{swaps, addDropSwap}
 use Rattle.model.specs.Search.{NoLower}
 use Rattle.model.specs.Plans.{openCost, openStart, openSearch, limitedCost, limitedStart, limitedSearch}
@@ -17,7 +17,7 @@ use Rattle.model.proofs.SearchLaws.{search-ends}
 use Rattle.model.proofs.PlanLaws.{open-start, limited-start, open-keeps, limited-keeps}
 use Rattle.bounds.specs.Optimum.{OpenOptimum, OpenBounded, LimitedOptimum}
 use Rattle.bounds.proofs.Lists.{list-optimum-one}
-use Rattle.bounds.proofs.Theorems.{open-bound, limited-five}
+use Rattle.bounds.proofs.Theorems.{open-bound, open-thrice, limited-five}
 
 module _ (I : Instance) where
   open Instance I using (facilities as m)
@@ -64,6 +64,13 @@ module _ (I : Instance) where
       let end = search-ends (openCost I) (addDropSwap m) start in
       open-bound I h (member _) G (open-keeps I start small some .1) some-G (open-optimum _ (end .no-lower))
 
+  pub open-search-thrice : metric I ≡ true → (start : ℕ) → start < 2 ^ m → any m (member start) ≡ true
+      → (G : ℕ → Bool) → any m G ≡ true → totalCost I (member (openSearch I start .set)) ≤ 3 * totalCost I G
+  unfolding openSearch
+  open-search-thrice h start small some G some-G =
+      let end = search-ends (openCost I) (addDropSwap m) start in
+      open-thrice I h (member _) G (open-keeps I start small some .1) some-G (open-optimum _ (end .no-lower))
+
   -- what the limited search ends in, from a set of k facilities, beside any rival of at most k
   pub limited-search-bound : metric I ≡ true → (k start : ℕ) → start < 2 ^ m → count m (member start) ≡ k
       → (G : ℕ → Bool) → 1 ≤ count m G → count m G ≤ k
@@ -80,6 +87,12 @@ module _ (I : Instance) where
   open-plan-bound h some G some-G =
       let start = open-start I some in
       open-search-bound h (openStart I) (start .0) (start .1) G some-G
+
+  pub open-plan-thrice : metric I ≡ true → 1 ≤ m → (G : ℕ → Bool) → any m G ≡ true
+      → totalCost I (member (openSearch I (openStart I) .set)) ≤ 3 * totalCost I G
+  open-plan-thrice h some G some-G =
+      let start = open-start I some in
+      open-search-thrice h (openStart I) (start .0) (start .1) G some-G
 
   pub limited-plan-bound : metric I ≡ true → (k : ℕ) → k ≤ m → (G : ℕ → Bool) → 1 ≤ count m G → count m G ≤ k
       → serviceCost I (member (limitedSearch I (limitedStart k) .set)) ≤ 5 * serviceCost I G

@@ -4,8 +4,10 @@ use native.Mathlib.Omega.{arith}
 use mathlib.Core.Path.{_≡_, refl, sym, ap, subst, _∙_}
 use mathlib.Core.Bool.{Bool, true, false}
 use mathlib.Core.List.{List}
+use lib.ListN.{length}
 use Rattle.model.specs.Sets.{member}
 use Rattle.model.specs.Instance.{Instance, totalCost}
+use Rattle.model.specs.Plans.{openStart, openSearch, limitedStart, limitedSearch}
 use Rattle.model.proofs.CountLaws.{count-le}
 use Rattle.sheet.specs.Answers.{Answer, accepted, refused, ask, after}
 use Rattle.sheet.specs.Sheet.{instanceOf}
@@ -13,14 +15,15 @@ use Rattle.sheet.specs.Reading.{Counts, counts, reading}
 use Rattle.sheet.proofs.ReadingLaws.{refused-by}
 use Rattle.sheet.proofs.AcceptedLaws.{WithinBounds, instance-is, door, accepts}
 use Rattle.price.specs.Plan.{question9, planSet}
-use Rattle.price.specs.Pricing.{Result, Plan, plan, meaning, answer, question8, pricing}
+use Rattle.price.specs.Pricing.{Result, result, Plan, plan, meaning, answer, areaAfter, OfPlan, question8, pricing}
 use Rattle.price.specs.declared.Planned.{Planned}
 use Rattle.price.specs.declared.Planned.the-variants.{Written, Refused}
 use Rattle.price.proofs.PlanLaws.{plan-length}
 use Rattle.search.specs.Settling.{openEnd, limitedEnd, planOf}
 use Rattle.search.specs.Planning.{openPlan, limitedPlan, question7, openPlanning, limitedPlanning}
-use Rattle.search.specs.Promises.{OfPlan}
+use Rattle.price.proofs.OfPlanLaws.{PlanOf, set-read-off, priced-set}
 use Rattle.search.proofs.PlanningLaws.{open-small, limited-small}
+use Rattle.search.proofs.PromiseLaws.{open-plan-of, limited-plan-of}
 use Rattle.exports.specs.Numbers.{countsNumber, resultNumber, refusal, yardsRead, farmsRead, bytesWritten, movesMade, OfWritten, Within}
 
 -- ---- what a number of pricing or of a plan says
@@ -132,3 +135,32 @@ module _ (r : ℕ) (area : List ℕ) (P : ℕ → Type 0) where
       subst (λ b. P (planSet area b)) (sym told) (h bytes moves refl)
   of-written (Refused k) within e h accepts =
       absurd (omega (arith, sym (said (meaning (Refused k)) within .0) ∙ sym (ap refusal e) ∙ accepts, within .0))
+
+-- ---- and is used: what is promised by the number of an accepted call holds of its plan's own set
+
+module _ (outcome : Answer Plan) (p : Plan) (e : outcome ≡ accepted p) (bits : Within (answer outcome)) (area : List ℕ) (P : ℕ → Type 0) where
+  written-of : (set : ℕ) → PlanOf set p → OfWritten (resultNumber (answer outcome)) (areaAfter outcome area) P → P set
+  unfolding answer
+  written-of set f h =
+      let is : answer outcome ≡ accepted (result (length (p .bytes)) (p .moves)) = ap answer e in
+      let told = said (accepted (result (length (p .bytes)) (p .moves))) (subst Within is bits) in
+      subst P (ap (planSet (areaAfter outcome area)) (ap (λ a. bytesWritten (resultNumber a)) is ∙ told .1) ∙ set-read-off outcome p set e f area)
+      (h (ap (λ a. refusal (resultNumber a)) is ∙ told .0))
+
+module _ (s area : List ℕ) (p : Plan) (P : ℕ → Type 0) where
+  pub pricing-promised : (set : ℕ) → pricing s set (length area) ≡ accepted p
+      → OfWritten (resultNumber (answer (pricing s set (length area)))) (areaAfter (pricing s set (length area)) area) P → P set
+  pricing-promised set e =
+      written-of (pricing s set (length area)) p e (pricing-within s (length area) set) area P set (priced-set s set (length area) p e)
+
+  pub open-promised : openPlanning s (length area) ≡ accepted p
+      → OfWritten (resultNumber (answer (openPlanning s (length area)))) (areaAfter (openPlanning s (length area)) area) P
+      → P (openSearch (instanceOf s) (openStart (instanceOf s)) .set)
+  open-promised e =
+      written-of (openPlanning s (length area)) p e (open-within s (length area)) area P _ (open-plan-of s (length area) p e)
+
+  pub limited-promised : (k : ℕ) → limitedPlanning s k (length area) ≡ accepted p
+      → OfWritten (resultNumber (answer (limitedPlanning s k (length area)))) (areaAfter (limitedPlanning s k (length area)) area) P
+      → P (limitedSearch (instanceOf s) (limitedStart k) .set)
+  limited-promised k e =
+      written-of (limitedPlanning s k (length area)) p e (limited-within s (length area) k) area P _ (limited-plan-of s k (length area) p e)

@@ -7,7 +7,7 @@ ghost use lib.ListN.{length, getD};
 ghost use Rattle.sheet.specs.Reading.{reading, farmHauls};
 ghost use Rattle.price.specs.Pricing.{meaning, answer, areaAfter, pricing};
 ghost use Rattle.search.specs.Planning.{openPlanning, limitedPlanning};
-ghost use Rattle.search.specs.Promises.{NoOpenMove, BoundedByRivals, NoLimitedMove, BoundedByRivalsOf};
+ghost use Rattle.search.specs.Promises.{NoOpenMove, BoundedByRivals, OfSize, NoLimitedMove, BoundedByRivalsOf};
 ghost use Rattle.exports.specs.Numbers.{countsNumber, resultNumber, Within, OfWritten};
 use price::Planned;
 use sheet::Reading;
@@ -53,6 +53,7 @@ pub extern "C" fn planner_farm_byte(sheet: &[u8], farm: usize, at: usize) -> u8
 pub extern "C" fn planner_price(sheet: &[u8], set: u32, area: &mut [u8]) -> u64
     ensures answer { λ r. ⌜ r ≡ resultNumber (answer (pricing (now (sheet .entry)) set (length (now (area .entry))))) ⌝ }
     ensures area { λ r. ⌜ now (area .exit) ≡ areaAfter (pricing (now (sheet .entry)) set (length (now (area .entry)))) (now (area .entry)) ⌝ }
+    ensures kept { λ r. ⌜ OfWritten r (now (area .exit)) (λ kept. kept ≡ set) ⌝ }
 {
     let priced = price::price(sheet, set, area);
     number(priced)
@@ -75,6 +76,7 @@ pub extern "C" fn planner_open_plan(sheet: &[u8], area: &mut [u8]) -> u64
 pub extern "C" fn planner_limited_plan(sheet: &[u8], k: usize, area: &mut [u8]) -> u64
     ensures answer { λ r. ⌜ r ≡ resultNumber (answer (limitedPlanning (now (sheet .entry)) k (length (now (area .entry))))) ⌝ }
     ensures area { λ r. ⌜ now (area .exit) ≡ areaAfter (limitedPlanning (now (sheet .entry)) k (length (now (area .entry)))) (now (area .entry)) ⌝ }
+    ensures sized { λ r. ⌜ OfWritten r (now (area .exit)) (OfSize (now (sheet .entry)) k) ⌝ }
     ensures settled { λ r. ⌜ OfWritten r (now (area .exit)) (NoLimitedMove (now (sheet .entry))) ⌝ }
     ensures bounded { λ r. ⌜ OfWritten r (now (area .exit)) (BoundedByRivalsOf (now (sheet .entry)) k) ⌝ }
 {

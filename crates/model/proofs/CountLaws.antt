@@ -1,6 +1,6 @@
 -- Laws of counts and of sums over a set, of a set with a member more or less, and of the first members of a set.
 use Prim.Native.Nat.{ℕ, zero, suc, _+_, _*_, _≤_, _<_, min, zero-le}
-use native.Mathlib.Nat.{le-step, lt-suc-self, not-suc-le-zero}
+use native.Mathlib.Nat.{le-refl, le-step, lt-suc-self, not-suc-le-zero}
 use native.Mathlib.Omega.{arith}
 use mathlib.Core.Path.{_≡_, refl, sym, ap, _∙_}
 use mathlib.Core.Bool.{Bool, true, false, not, _&&_, _||_}
@@ -124,6 +124,24 @@ pub count-two : (m f g : ℕ) (S : ℕ → Bool) → f < m → g < m → S f ≡
 count-two m f g S lf lg ef eg d =
     let one = count-some m g (minus S f) lg (minus-in S f g d eg) in
     omega (arith, count-minus m f S lf ef)
+
+-- a set inside another that has one member more counts fewer
+pub count-fewer : (m o : ℕ) (S T : ℕ → Bool) → o < m → ((i : ℕ) → i < m → S i ≡ true → T i ≡ true) → S o ≡ false → T o ≡ true
+    → count m S < count m T
+count-fewer m o S T l sub so to =
+    omega (
+      arith,
+      count-plus m o S l so,
+      sum-mono m (λ i k. at i (eqb o i) (test o i) (sub i k)),
+    )
+  where
+    at : (i : ℕ) (b : Bool) → Eq? o i b → (S i ≡ true → T i ≡ true) → on (b || S i) 1 ≤ on (T i) 1
+    at i true (same q) h = rw (sym (ap T q) ∙ to) (le-refl 1)
+    at i false (diff q) h = cases (S i) (λ e. rw (e, h e) (le-refl 1)) (λ e. rw e zero-le)
+
+-- a set of numbers below m that lacks one
+pub count-missing : (m o : ℕ) (S : ℕ → Bool) → o < m → S o ≡ false → count m S < m
+count-missing m o S l e = omega (arith, count-plus m o S l e, count-le m (plus S o))
 
 -- ---- the first t members of S, and the others
 

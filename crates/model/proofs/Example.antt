@@ -1,7 +1,9 @@
 -- The definitions computed on document 01's sheet S as an instance, so that a reader can see that they say what is meant.
 use Prim.Native.Nat.{ℕ, zero, suc}
 use mathlib.Core.Path.{_≡_, refl}
-use mathlib.Core.Bool.{true, false}
+use mathlib.Core.Bool.{true, false, cond}
+use mathlib.Core.List.{[], _∷_, _++_}
+use lib.Dec.{eqb}
 use Rattle.model.specs.Loops.{allBelow, sum, join}
 use Rattle.model.specs.Least.{any, least, arg}
 use Rattle.model.specs.Sets.{member, with, without}
@@ -72,3 +74,34 @@ example-two = refl
 example-three : limitedSearch example (limitedStart 3) ≡ reached 7 0
 unfolding example limitedSearch limitedStart limitedCost serviceCost nearest member least any sum search descend next best better swaps swapsOut swapAt with without join
 example-three = refl
+
+-- ---- the order of the moves
+
+-- From {1, 2} of four: the adds of 0 and 3, the drops of 1 and 2, then the swaps by the number going out and by the number coming in: 0 and
+-- 3 for 1, 0 and 3 for 2.
+example-order : addDropSwap 4 6 ≡ 7 ∷ 14 ∷ 4 ∷ 2 ∷ 5 ∷ 12 ∷ 3 ∷ 10 ∷ []
+unfolding addDropSwap adds addAt drops dropAt swaps swapsOut swapAt with without member sum join
+example-order = refl
+
+-- where every neighbour costs the same, the first is gone to: of all moves an add, of drops and swaps a drop, of swaps the first
+example-first : (next (λ set. cond (eqb set 6) 1 0) (addDropSwap 4) 6 ≡ 7)
+    × (best (λ set. cond (eqb set 6) 1 0) 6 (drops 4 6 ++ swaps 4 6) ≡ 4) × (next (λ set. cond (eqb set 6) 1 0) (swaps 4) 6 ≡ 5)
+unfolding next best better addDropSwap adds addAt drops dropAt swaps swapsOut swapAt with without member sum join
+example-first = (refl, refl, refl)
+
+-- Hauls that cost nothing. From {1, 2} at fees 0, 2 and 2, both drops and both swaps save 2: yard 1 is dropped. From {0, 1} of a
+-- limited plan, where yards 2 and 3 serve the one farm for nothing and the others for 2, every swap saves 2: yard 2 comes in for 0.
+free : Instance
+free = record { facilities = 3; clients = 1; opening = row 0 2 2; service = λ i j. 0; weight = λ j. 1 }
+
+near : ℕ → ℕ
+near zero = 2
+near (suc zero) = 2
+near (suc (suc i)) = 0
+
+one-farm : Instance
+one-farm = record { facilities = 4; clients = 1; opening = λ i. 0; service = λ i j. near i; weight = λ j. 1 }
+
+example-ties : (next (openCost free) (addDropSwap 3) 6 ≡ 4) × (next (limitedCost one-farm) (swaps 4) 3 ≡ 6)
+unfolding free one-farm near openCost limitedCost totalCost openingCost serviceCost nearest member least any sum next best better addDropSwap adds addAt drops dropAt swaps swapsOut swapAt with without join
+example-ties = (refl, refl)

@@ -17,5 +17,7 @@ pub mod NearestChangeLaws
 pub mod SetLaws
 pub mod NeighbourLaws
 pub mod SearchLaws
+pub mod LimitLaws
+pub mod FewStepsLaws
 pub mod PlanLaws
 pub mod Example

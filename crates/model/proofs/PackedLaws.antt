@@ -6,12 +6,10 @@ use mathlib.Core.Path.{_≡_, refl, sym, ap, _∙_}
 use mathlib.Core.Logic.{inl, inr}
 use mathlib.Core.Bool.{Bool, true, false, cond, not, _&&_}
 use lib.Dec.{eqb}
-use Rattle.model.specs.Least.{any, least, arg}
-use Rattle.model.specs.TwoLeast.{Two, two, twoLeast, packed}
+use Rattle.model.specs.TwoLeast.{Two, twoLeast, packed}
 use Rattle.model.specs.Sets.{minus}
 use Rattle.model.proofs.Bools.{cases, eqb-self, Eq?, same, diff, test}
-use Rattle.model.proofs.LeastLaws.{arg-least, arg-is, least-at}
-use Rattle.model.proofs.TwoLeastLaws.{first-with, two-none, two-ordered, two-below, two-without, first-without, first-least, first-attained}
+use Rattle.model.proofs.TwoLeastLaws.{first-with, two-none, two-ordered, two-below, two-without, first-without, first-attained}
 
 pub packed-divides : (c : ℕ → ℕ) (i : ℕ) → i < 32 → packed c i / 32 ≡ c i
 unfolding packed
@@ -20,24 +18,6 @@ packed-divides c i l = omega arith
 pub packed-facility : (c : ℕ → ℕ) (i : ℕ) → i < 32 → packed c i % 32 ≡ i
 unfolding packed
 packed-facility c i l = omega arith
-
--- of least packed number is who is of least cost, the lowest number among equals
-packed-arg : (m : ℕ) (S : ℕ → Bool) (c : ℕ → ℕ) → m ≤ 32 → any m S ≡ true → arg m S (packed c) ≡ arg m S c
-unfolding packed
-packed-arg m S c few some =
-    let r = arg-least m S (packed c) some in
-    sym (arg-is m (arg m S (packed c)) S c (record {
-      below = r .below;
-      is-in = r .is-in;
-      lowest = λ k l f. omega (arith, r .lowest k l f, r .below);
-      first = λ k l f. omega (arith, r .first k l f, r .below);
-    }))
-
--- so the first of the two is that member with its cost
-pub packed-first : (h m : ℕ) (S : ℕ → Bool) (c : ℕ → ℕ) → m ≤ 32 → any m S ≡ true → ((i : ℕ) → i < m → packed c i ≤ h)
-    → twoLeast h m S (packed c) .first ≡ packed c (arg m S c)
-packed-first h m S c few some bound =
-    first-least h m S (packed c) some bound ∙ least-at m S (packed c) some ∙ ap (packed c) (packed-arg m S c few some)
 
 -- what is the packed number of o names o
 names : (c : ℕ → ℕ) (o x : ℕ) → o < 32 → packed c o ≡ x → x % 32 ≡ o

@@ -1,5 +1,5 @@
 -- Loops: what loops compute. Least: least members. Sets: sets of numbers. Instance: the problem and its costs.
--- Neighbours: the moves of a search. Search: the search itself. Plans: the two searches of document 01.
+-- Neighbours: the moves of a search. Search: the search itself. Limit: the search with a limit on moves. Plans: the two searches of document 01.
 -- TwoLeast: the two least values over a set. Passing: what a loop makes of a value. QuickMetric: a quicker test of metric service costs.
 pub mod Loops
 pub mod Passing
@@ -9,5 +9,6 @@ pub mod Sets
 pub mod Instance
 pub mod Neighbours
 pub mod Search
+pub mod Limit
 pub mod Plans
 pub mod QuickMetric

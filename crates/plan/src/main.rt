@@ -18,53 +18,50 @@ const INPUT: usize = MOST_BYTES + 1;
 // The records of 32 yards, 128 farms, the total and the moves.
 const AREA: usize = Record::LEN * (MOST_YARDS + MOST_FARMS + 2);
 
-fn text(bytes: &[u8]) {
-    io::write_all(STDOUT_FILENO, bytes);
+fn text(bytes: &[u8]) -> bool {
+    io::write_all(STDOUT_FILENO, bytes)
 }
 
 // A number after a word or another number.
-fn number(n: u64) {
-    text(b" ");
-    io::print_decimal(STDOUT_FILENO, n);
+fn number(n: u64) -> bool {
+    text(b" ") && io::print_decimal(STDOUT_FILENO, n)
+}
+
+// A line's word and the numbers before its amount: a yard; a farm and its yard; none. A plan has no other kind.
+fn head(record: Record) -> bool {
+    let kind = record.kind;
+    match kind {
+        KIND_OPEN => text(b"open") && number(record.yard as u64),
+        KIND_FARM => text(b"farm") && number(record.farm as u64) && number(record.yard as u64),
+        KIND_TOTAL => text(b"total"),
+        KIND_MOVES => text(b"moves"),
+        _ => false,
+    }
 }
 
 // A yard with its fee; a farm, its yard, its haul; the total; the moves.
-fn print_record(record: Record) {
-    let kind = record.kind;
-    match kind {
-        KIND_OPEN => {
-            text(b"open");
-            number(record.yard as u64);
-        }
-        KIND_FARM => {
-            text(b"farm");
-            number(record.farm as u64);
-            number(record.yard as u64);
-        }
-        KIND_TOTAL => text(b"total"),
-        KIND_MOVES => text(b"moves"),
-        _ => return,
-    }
-    number(record.amount as u64);
-    text(b"\n");
+fn print_record(record: Record) -> bool {
+    head(record) && number(record.amount as u64) && text(b"\n")
 }
 
-fn print_plan(area: &[u8], bytes: usize) {
+// Printing stops at the first write that fails: a line left out of the middle would not be missed.
+fn print_plan(area: &[u8], bytes: usize) -> bool {
     let n = bytes / Record::LEN;
     let mut i = 0;
     while i < n {
-        print_record(Record::at(area, i));
+        if !print_record(Record::at(area, i)) {
+            return false;
+        }
         i += 1;
     }
+    true
 }
 
-fn print_refusal(k: u8) {
-    text(b"refused");
-    number(k as u64);
-    text(b"\n");
+fn print_refusal(k: u8) -> bool {
+    text(b"refused") && number(k as u64) && text(b"\n")
 }
 
-fn plan_of(sheet: &[u8]) {
+fn plan_of(sheet: &[u8]) -> bool {
     let mut area = [0u8; AREA];
     match search::open_plan(sheet, &mut area) {
         Planned::Written { bytes, moves: _ } => print_plan(&area, bytes),
@@ -85,5 +82,10 @@ fn main() {
         io::write_all(STDERR_FILENO, b"plan: the sheet could not be read\n");
         return;
     }
-    plan_of(&input[..n]);
+    if !plan_of(&input[..n]) {
+        io::write_all(
+            STDERR_FILENO,
+            b"plan: the list could not be written whole\n",
+        );
+    }
 }

@@ -1,7 +1,7 @@
 -- Laws of the nearest open yard: what `closer` keeps, what a turn over the yards adds, and that a farm's stretch of the sheet
 -- gives the nearest yard of the instance.
 use Prim.Native.Nat.{ℕ, zero, suc, _+_, _-_, _*_, _/_, _%_, _^_, _≤_, _<_, min}
-use native.Mathlib.Nat.{le-of-lt, min-eq-left, min-eq-right, add-sub-cancel-left}
+use native.Mathlib.Nat.{le-of-lt, min-eq-left, min-eq-right}
 use native.Mathlib.Numerals.{add-one}
 use native.Mathlib.Omega.{arith}
 use mathlib.Core.Path.{_≡_, refl, sym, ap, ap₂, _∙_}
@@ -26,8 +26,6 @@ use Rattle.sheet.specs.Sheet.{records, haul, instanceBy}
 use Rattle.sheet.specs.Shape.{Shape}
 use Rattle.sheet.specs.Reading.{stretch}
 use Rattle.sheet.proofs.RecordLaws.{whole}
-use Rattle.sheet.proofs.ShapeLaws.{row-within}
-use Rattle.sheet.proofs.StretchLaws.{stretch-is}
 use Rattle.sheet.proofs.FarmLaws.{stretch-length, stretch-record}
 use Rattle.price.specs.declared.nearest.Nearest.{Nearest}
 use Rattle.price.specs.Nearest.{near, nearestBelow, closer, amountAt, nearestOn}
@@ -216,18 +214,6 @@ module _ (bytes yards : List ℕ) (set : ℕ) (e : yards ≡ risingBelow (min (r
       (omega (arith, last .within)) k (rw done at h .holds (omega arith)) ∙ all small
 
 -- ---- a farm's stretch
-
--- the sheet reaches so far
-pub stretch-room : (s : List ℕ) (m n p : ℕ) → Shape s m n → p < n → (m ≤ 32) × (p < 128) × (8 * (m + p * m) + 8 * m ≤ length s)
-stretch-room s m n p f below =
-    (f .few-yards, omega (arith, f .few-farms), omega (arith, row-within m n p below, f .room))
-
--- it is the part of the sheet from the farm's first haul to its last
-pub cut-stretch : (s part : List ℕ) (m p : ℕ) → m ≤ 32 → p < 128 → 8 * (m + p * m) + 8 * m ≤ length s
-    → part ≡ take (8 * (m + p * m) + 8 * m - 8 * (m + p * m)) (drop (8 * (m + p * m)) s) → part ≡ stretch s m p
-cut-stretch s part m p few below room cut =
-    cut ∙ ap (λ (k : ℕ). take k (drop (8 * (m + p * m)) s)) (add-sub-cancel-left (8 * (m + p * m)) (8 * m))
-    ∙ sym (stretch-is s m p few below room)
 
 pub nearest-values : (m : ℕ) (S : ℕ → Bool) (v w : ℕ → ℕ) → ((i : ℕ) → i < m → v i ≡ w i) → nearestBelow m S v ≡ nearestBelow m S w
 unfolding nearestBelow

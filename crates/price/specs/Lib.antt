@@ -1,6 +1,5 @@
--- Nearest: a farm's nearest open yard. Plan: the records of a plan. Known: the same by the numbers kept for the farms. Pricing:
--- questions 8 and 9, and what pricing answers and writes.
+-- Nearest: a farm's nearest open yard. Plan: the records of a plan. Pricing: questions 8 and 9, and what pricing answers
+-- and writes.
 pub mod Nearest
 pub mod Plan
-pub mod Known
 pub mod Pricing

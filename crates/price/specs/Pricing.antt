@@ -1,5 +1,6 @@
 -- What the calls that write a plan answer and leave in the area, and what pricing a set gives.
 use Prim.Native.Nat.{ℕ, _^_}
+use mathlib.Core.Path.{_≡_}
 use mathlib.Core.Bool.{Bool, _&&_}
 use mathlib.Core.List.{List}
 use lib.ListN.{length}
@@ -10,7 +11,7 @@ use Rattle.sheet.specs.Records.{splice}
 use Rattle.sheet.specs.Answers.{Answer, accepted, refused, ask, after}
 use Rattle.sheet.specs.Sheet.{instanceOf}
 use Rattle.sheet.specs.Reading.{reading}
-use Rattle.price.specs.Plan.{planBytes, question9}
+use Rattle.price.specs.Plan.{planBytes, question9, planSet}
 use Rattle.price.specs.declared.Planned.{Planned}
 use Rattle.price.specs.declared.Planned.the-variants.{Written, Refused}
 
@@ -46,6 +47,10 @@ unfoldable pub areaAfter : Answer Plan → List ℕ → List ℕ
 areaAfter (accepted p) area = splice area 0 (p .bytes)
 areaAfter (refused k) area = area
 
+-- what holds of the set in the area, where the call wrote a plan
+abbrev pub OfPlan : Planned → List ℕ → (ℕ → Type 0) → Type 0
+OfPlan r area P = (bytes moves : ℕ) → r ≡ Written bytes moves → P (planSet area bytes)
+
 -- 8. Does the set, a 32-bit number whose bit i marks yard i, mark at least one yard and none numbered m or above?
 unfoldable pub question8 : ℕ → ℕ → Bool
 question8 m set = leb 1 set && ltb set (2 ^ m)
@@ -55,3 +60,7 @@ unfoldable pub pricing : List ℕ → ℕ → ℕ → Answer Plan
 pricing s set room =
     after (reading s) (λ c. ask (question8 (c .yards) set) 8 (ask (question9 (c .yards) (c .farms) room) 9
     (accepted (plan (instanceOf s) set (totalCost (instanceOf s) (member set)) 0))))
+
+-- "A priced list keeps the set given" (demand 2): it is the set in the area.
+abbrev pub SetKept : ℕ → Planned → List ℕ → Type 0
+SetKept set r area = OfPlan r area (λ kept. kept ≡ set)

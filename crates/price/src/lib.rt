@@ -1,8 +1,7 @@
 // Pricing: the nearest open yard of each farm, what a set of yards costs, and the plan of it in the caller's area.
 //
 // `price` asks questions 1 to 6, 8 and 9 of document 01 and writes the plan of the set that it is given. `write_plan`, with
-// `plan_fits`, writes the plan of any set for callers that have read the sheet, and `write_plan_by` for those that know each farm's
-// nearest yard too. Every call is total.
+// `plan_fits`, writes the plan of any set for callers that have read the sheet. Every call is total.
 mod nearest;
 mod plan;
 
@@ -14,11 +13,10 @@ pub use plan::KIND_OPEN;
 pub use plan::KIND_TOTAL;
 pub use plan::plan_fits;
 pub use plan::write_plan;
-pub use plan::write_plan_by;
 ghost use mathlib.Core.Path.{_≡_};
 ghost use Prim.Native.Nat.{_≤_};
 ghost use lib.ListN.{length};
-ghost use Rattle.price.specs.Pricing.{meaning, answer, areaAfter, question8, pricing};
+ghost use Rattle.price.specs.Pricing.{meaning, answer, areaAfter, question8, pricing, SetKept};
 use sheet::Reading;
 
 // What a call that writes a plan answers: the bytes written and the moves made, or the number of the first question that is
@@ -33,6 +31,7 @@ pub enum Planned {
 pub fn price(sheet: &[u8], set: u32, area: &mut [u8]) -> Planned
     ensures answer { λ r. ⌜ meaning r ≡ answer (pricing (now (sheet .entry)) set (length (now (area .entry)))) ⌝ }
     ensures area { λ r. ⌜ now (area .exit) ≡ areaAfter (pricing (now (sheet .entry)) set (length (now (area .entry)))) (now (area .entry)) ⌝ }
+    ensures kept { λ r. ⌜ SetKept set r (now (area .exit)) ⌝ }
 {
     match sheet::read(sheet) {
         Reading::Accepted { yards, farms } => {

@@ -1,6 +1,6 @@
 // Writes the records of a plan to the front of an area that the caller lends.
 ghost use mathlib.Core.Path.{_≡_};
-ghost use Prim.Native.Nat.{_+_, _*_, _/_, _%_, _≤_, _<_};
+ghost use Prim.Native.Nat.{_+_, _*_, _≤_, _<_};
 ghost use mathlib.Core.Bool.{true};
 ghost use mathlib.Core.List.{_++_};
 ghost use lib.ListN.{length};
@@ -11,9 +11,7 @@ ghost use Rattle.sets.specs.Members.{risingBelow};
 ghost use Rattle.sheet.specs.Records.{recordOf, bytesOf, splice};
 ghost use Rattle.sheet.specs.Sheet.{fee, instanceBy};
 ghost use Rattle.sheet.specs.Shape.{Shape};
-ghost use Rattle.sheet.specs.Reading.{stretch};
 ghost use Rattle.price.specs.Plan.{openRecord, farmRecord, movesRecord, planFits, writing};
-ghost use Rattle.price.specs.Known.{farmRecordBy, writingBy};
 use crate::nearest::nearest_of;
 use sheet::MOST_FARMS;
 use sheet::MOST_YARDS;
@@ -70,34 +68,6 @@ pub fn write_plan(
     put_end(body.open_yards, farms, total, moves, area)
 }
 
-// The same for a caller that keeps a number for each farm: 32 times the haul to its nearest open yard, and that yard's number.
-// With fewer numbers than farms nothing is written either.
-pub fn write_plan_by(
-    sheet: &[u8],
-    yards: usize,
-    farms: usize,
-    set: u32,
-    nearest: &[u32],
-    total: u32,
-    moves: u32,
-    area: &mut [u8],
-) -> usize
-    ensures bytes { λ r. ⌜ r ≡ length (writingBy (now (sheet .entry)) yards farms set (now (nearest .entry)) total moves (length (now (area .entry)))) ⌝ }
-    ensures area { λ r. ⌜ now (area .exit) ≡ splice (now (area .entry)) 0 (writingBy (now (sheet .entry)) yards farms set (now (nearest .entry)) total moves (length (now (area .entry)))) ⌝ }
-{
-    if !plan_fits(yards, farms, area.len()) {
-        return 0;
-    }
-    if sheet.len() < Record::LEN * (yards + farms * yards) {
-        return 0;
-    }
-    if nearest.len() < farms {
-        return 0;
-    }
-    let open_yards = put_body_by(sheet, yards, farms, set, nearest, area);
-    put_end(open_yards, farms, total, moves, area)
-}
-
 // Writes the records of the open yards to the front of the area and those of the farms behind them, and gives the count of the
 // open yards and the full cost.
 pub(crate) fn put_body(sheet: &[u8], m: usize, n: usize, set: u32, area: &mut [u8]) -> Body
@@ -116,27 +86,6 @@ pub(crate) fn put_body(sheet: &[u8], m: usize, n: usize, set: u32, area: &mut [u
         open_yards: count,
         cost: fees + hauls,
     }
-}
-
-// The same with the numbers kept for the farms; it gives the count of the open yards alone.
-fn put_body_by(
-    sheet: &[u8],
-    m: usize,
-    n: usize,
-    set: u32,
-    nearest: &[u32],
-    area: &mut [u8],
-) -> usize
-    requires { ⌜ Shape (now sheet) m n × (n ≤ length (now nearest)) × (8 * (m + n) ≤ length (now area)) ⌝ }
-    ensures open { λ r. ⌜ r ≡ count m (member set) ⌝ }
-    ensures area { λ r. ⌜ now (area .exit) ≡ splice (now (area .entry)) 0 (join m (openRecord (instanceBy (now (sheet .entry)) m n) set) ++ join n (farmRecordBy (now (nearest .entry)))) ⌝ }
-{
-    let open = sets::members_below(set, m);
-    let list = open.list;
-    let count = open.count;
-    put_opens(sheet, m, n, set, &list[..count], area);
-    put_farms_by(n, nearest, area, Record::LEN * count);
-    count
 }
 
 // Writes the record of an open yard, and gives its fee.
@@ -168,15 +117,6 @@ fn put_opens(sheet: &[u8], m: usize, n: usize, set: u32, yards: &[u8], area: &mu
     total
 }
 
-// A farm's stretch of a sheet that reaches so far.
-fn stretch_of(sheet: &[u8], m: usize, farm: usize) -> &[u8]
-    requires { ⌜ (m ≤ 32) × (farm < 128) × (8 * (m + farm * m) + 8 * m ≤ length (now sheet)) ⌝ }
-    ensures { λ r. ⌜ now r ≡ stretch (now (sheet .entry)) m farm ⌝ }
-{
-    let from = Record::LEN * (m + farm * m);
-    &sheet[from..from + Record::LEN * m]
-}
-
 // Writes the record of a farm, and gives its haul.
 fn put_farm(
     sheet: &[u8],
@@ -192,7 +132,8 @@ fn put_farm(
     ensures haul { λ r. ⌜ r ≡ nearest (instanceBy (now (sheet .entry)) m n) (member set) farm ⌝ }
     ensures area { λ r. ⌜ now (area .exit) ≡ splice (now (area .entry)) at (farmRecord (instanceBy (now (sheet .entry)) m n) set farm) ⌝ }
 {
-    let near = nearest_of(stretch_of(sheet, m, farm), set, yards);
+    let hauls = sheet::farm_stretch(sheet, m, farm);
+    let near = nearest_of(hauls, set, yards);
     let record = Record::new(KIND_FARM, near.yard as u8, farm as u8, 0, near.haul);
     record.put(area, at);
     near.haul
@@ -230,27 +171,6 @@ fn put_farms(
         farm += 1;
     }
     total
-}
-
-// Writes the record of a farm, from the number kept for it.
-fn put_farm_by(near: u32, farm: usize, area: &mut [u8], at: usize)
-    requires { ⌜ (farm < 128) × (at + 8 ≤ length (now area)) ⌝ }
-    ensures { λ _. ⌜ now (area .exit) ≡ splice (now (area .entry)) at (bytesOf (recordOf 0x41 (near % 32) farm 0 (near / 32))) ⌝ }
-{
-    let record = Record::new(KIND_FARM, (near % 32) as u8, farm as u8, 0, near / 32);
-    record.put(area, at);
-}
-
-// Writes the records of the farms, from the numbers kept for them, from an offset on.
-fn put_farms_by(n: usize, nearest: &[u32], area: &mut [u8], from: usize)
-    requires { ⌜ (n ≤ 128) × (n ≤ length (now nearest)) × (from + 8 * n ≤ length (now area)) ⌝ }
-    ensures { λ _. ⌜ now (area .exit) ≡ splice (now (area .entry)) from (join n (farmRecordBy (now (nearest .entry)))) ⌝ }
-{
-    let mut farm = 0;
-    while farm < n {
-        put_farm_by(nearest[farm], farm, area, from + Record::LEN * farm);
-        farm += 1;
-    }
 }
 
 // Writes the records of the total and of the moves behind those of the yards and the farms, and gives the offset after them.

@@ -2,7 +2,7 @@
 use Prim.Native.Nat.{ℕ, _^_, _≤_, _<_}
 use native.Mathlib.Omega.{arith}
 use mathlib.Core.Path.{_≡_, refl, sym, ap, _∙_}
-use mathlib.Core.Bool.{Bool, true, false, and-false}
+use mathlib.Core.Bool.{true, false, and-false}
 use mathlib.Core.List.{List}
 use borrow.Author.Tests.{le-leb, lt-leb, leb-true}
 use lib.ListN.{length}
@@ -13,36 +13,33 @@ use Rattle.model.specs.Plans.{openCost, openSearch, limitedCost, limitedSearch}
 use Rattle.model.proofs.Bools.{and-left, and-right}
 use Rattle.model.proofs.SearchLaws.{search-ends}
 use Rattle.sheet.specs.Records.{splice}
-use Rattle.sheet.specs.Answers.{Answer, accepted, refused, ask, after}
+use Rattle.sheet.specs.Answers.{Answer, accepted, refused, after}
 use Rattle.sheet.specs.Sheet.{instanceBy, instanceOf}
 use Rattle.sheet.specs.Shape.{Shape}
-use Rattle.sheet.specs.Reading.{Counts, counts, reading}
-use Rattle.sheet.proofs.ReadingLaws.{same-result, apart}
+use Rattle.sheet.specs.Reading.{counts, reading}
+use Rattle.sheet.proofs.ReadingLaws.{same-result, asked, read-first}
 use Rattle.sheet.proofs.AcceptedLaws.{instance-is, accepts, door}
 use Rattle.sheet.proofs.CostBounds.{total-fits, service-fits}
-use Rattle.price.specs.Plan.{question9}
-use Rattle.price.specs.Known.{Known, writingBy}
+use Rattle.price.specs.Plan.{question9, writing}
 use Rattle.price.specs.Pricing.{Plan, result, answer, areaAfter}
 use Rattle.price.proofs.PricingLaws.{makes, writes-of}
-use Rattle.price.proofs.KnownLaws.{known-plan}
-use Rattle.search.specs.declared.descent.Settled.{Settled}
-use Rattle.search.specs.declared.moves.Neighbourhood.{Neighbourhood}
-use Rattle.search.specs.declared.moves.Neighbourhood.the-variants.{AddDropSwap, Swap}
+use Rattle.engine.specs.declared.Neighbourhood.{Neighbourhood}
+use Rattle.engine.specs.declared.Neighbourhood.the-variants.{AddDropSwap, Swap}
+use Rattle.search.specs.declared.planning.Settled.{Settled}
 use Rattle.search.specs.Settling.{settledAt, openEnd, limitedEnd, planOf}
 use Rattle.search.specs.Planning.{openPlan, limitedPlan, question7, openPlanning, limitedPlanning}
 use Rattle.search.specs.Preparing.{endBy, planningBy}
 
--- the writer, given a settled set and its farms' nearest yards, leaves its plan
-pub writes-settled : (s : List ℕ) (m n : ℕ) (r : Settled) (numbers area next : List ℕ) (bytes : ℕ) → Shape s m n
-    → question9 m n (length area) ≡ true → Known s m n (r .set) numbers
-    → bytes ≡ length (writingBy s m n (r .set) numbers (r .cost) (r .moves) (length area))
-    → next ≡ splice area 0 (writingBy s m n (r .set) numbers (r .cost) (r .moves) (length area))
+-- the writer, given a settled set, leaves its plan
+pub writes-settled : (s : List ℕ) (m n : ℕ) (r : Settled) (area next : List ℕ) (bytes : ℕ) → Shape s m n
+    → question9 m n (length area) ≡ true
+    → bytes ≡ length (writing s m n (r .set) (r .cost) (r .moves) (length area))
+    → next ≡ splice area 0 (writing s m n (r .set) (r .cost) (r .moves) (length area))
     → (accepted (result bytes (r .moves)) ≡ answer (accepted (planOf (instanceBy s m n) r)))
     × (next ≡ areaAfter (accepted (planOf (instanceBy s m n) r)) area)
 unfolding planOf
-writes-settled s m n r numbers area next bytes shape q known long put =
-    let is = known-plan s m n (r .set) numbers known (r .cost) (r .moves) (length area)
-    ∙ writes-of s m n (r .set) (r .cost) (r .moves) (length area) shape q in
+writes-settled s m n r area next bytes shape q long put =
+    let is = writes-of s m n (r .set) (r .cost) (r .moves) (length area) shape q in
     makes (accepted (planOf (instanceBy s m n) r)) area _ next bytes (r .moves) refl (long ∙ ap length is) refl (put ∙ ap (splice area 0) is)
 
 -- ---- how large they are
@@ -71,6 +68,12 @@ module _ (s : List ℕ) (m n : ℕ) (r : Settled) (e : reading s ≡ accepted (c
   pub limited-small : (k : ℕ) → r ≡ limitedEnd (instanceBy s m n) k → (r .cost < 2 ^ 32) × (r .moves < 2 ^ 32)
   unfolding limitedEnd limitedSearch
   limited-small k h = small-by _ _ _ r h (limited-total _)
+
+  -- of either plan
+  pub end-small : (moves : Neighbourhood) (k : ℕ) → r ≡ endBy moves (instanceBy s m n) k → (r .cost < 2 ^ 32) × (r .moves < 2 ^ 32)
+  unfolding endBy
+  end-small AddDropSwap k h = open-small h
+  end-small Swap k h = limited-small k h
 
 -- ---- question 7
 
@@ -129,15 +132,6 @@ unfolding planningBy limitedPlanning limitedPlan endBy
 limited-planning s k room = refl
 
 -- ---- and back: where a plan is made, the sheet was accepted and the questions were answered yes
-
-asked : {A : Type 0} (b : Bool) (k : ℕ) (rest : Answer A) (x : A) → ask b k rest ≡ accepted x → (b ≡ true) × (rest ≡ accepted x)
-asked true k rest x h = (refl, h)
-asked false k rest x h = absurd (apart (sym h))
-
-read-first : {A : Type 0} (r : Answer Counts) (f : Counts → Answer A) (x : A) → after r f ≡ accepted x
-    → (c : Counts) × (r ≡ accepted c) × (f c ≡ accepted x)
-read-first (accepted c) f x h = (c, refl, h)
-read-first (refused k) f x h = absurd (apart (sym h))
 
 pub open-when : (s : List ℕ) (room : ℕ) (p : Plan) → openPlanning s room ≡ accepted p
     → (m : ℕ) × (n : ℕ) × (reading s ≡ accepted (counts m n)) × (p ≡ openPlan (instanceOf s))

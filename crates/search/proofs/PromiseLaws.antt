@@ -1,60 +1,28 @@
--- What the two plans promise follows from their equations: the set read off the area is the one that the search ended in, which no
--- move lowers and which the theorems of local search bound beside every rival.
-use Prim.Native.Nat.{ℕ, _^_, _≤_, _<_}
-use native.Mathlib.Omega.{arith}
-use mathlib.Core.Path.{_≡_, refl, sym, ap, ap₂, subst, _∙_}
+-- What the two plans promise follows from their equations: the set read off the area is the one that the search ended in, which has the
+-- yards asked for, which no move lowers and which the theorems of local search bound beside every rival.
+use Prim.Native.Nat.{ℕ, _≤_}
+use mathlib.Core.Path.{_≡_, refl}
+use mathlib.Core.Bool.{true}
 use mathlib.Core.List.{List}
 use lib.ListN.{length}
-use Rattle.model.specs.Instance.{Instance, totalCost}
+use Rattle.model.specs.Least.{any}
 use Rattle.model.specs.Neighbours.{swaps, addDropSwap}
 use Rattle.model.specs.Plans.{openCost, openStart, openSearch, limitedCost, limitedStart, limitedSearch}
 use Rattle.model.proofs.CountLaws.{count-some}
 use Rattle.model.proofs.LeastLaws.{arg-least}
 use Rattle.model.proofs.SearchLaws.{search-ends}
 use Rattle.model.proofs.PlanLaws.{open-plan-keeps, limited-plan-keeps}
-use Rattle.bounds.proofs.Searches.{open-plan-bound, limited-plan-bound}
-use Rattle.sheet.specs.Records.{splice}
-use Rattle.sheet.specs.Answers.{Answer, accepted}
+use Rattle.bounds.proofs.Searches.{open-plan-bound, open-plan-thrice, limited-plan-bound}
+use Rattle.sheet.specs.Answers.{accepted}
 use Rattle.sheet.specs.Sheet.{yards, instanceOf, instanceBy}
 use Rattle.sheet.proofs.AcceptedLaws.{WithinBounds, door, accepts}
-use Rattle.price.specs.Plan.{planBytes, planSet}
-use Rattle.price.specs.Pricing.{Result, Plan, plan, meaning, answer, areaAfter}
+use Rattle.price.specs.Pricing.{Plan, meaning, answer, areaAfter, OfPlan}
 use Rattle.price.specs.declared.Planned.{Planned}
-use Rattle.price.proofs.PricingLaws.{answered}
-use Rattle.price.proofs.PlanSetLaws.{plan-set}
+use Rattle.price.proofs.OfPlanLaws.{PlanOf, of-plan}
 use Rattle.search.specs.Settling.{settledAt, openEnd, limitedEnd, planOf}
 use Rattle.search.specs.Planning.{openPlan, limitedPlan, openPlanning, limitedPlanning}
-use Rattle.search.specs.Promises.{OfPlan, NoOpenMove, OpenPlanSettled, NoLimitedMove, LimitedPlanSettled, BoundedByRivals, OpenPlanBounded, BoundedByRivalsOf, LimitedPlanBounded}
+use Rattle.search.specs.Promises.{OfSize, LimitedPlanSized, NoOpenMove, OpenPlanSettled, NoLimitedMove, LimitedPlanSettled, BoundedByRivals, OpenPlanBounded, BoundedByRivalsOf, LimitedPlanBounded}
 use Rattle.search.proofs.PlanningLaws.{open-when, limited-when}
-
--- ---- the set in the area
-
--- p is the plan of a set of yards of which P holds
-record HasSet (P : ℕ → Type 0) (p : Plan) : Type 0 where
-  instance : Instance
-  set : ℕ
-  total : ℕ
-  moves : ℕ
-  is : p ≡ plan instance set total moves
-  few : instance .facilities ≤ 32
-  small : set < 2 ^ instance .facilities
-  holds : P set
-
--- what holds of the set of every plan that a call can make holds of the set that is read off the area at its exit
-module _ (outcome : Answer Plan) (r : Planned) (area next : List ℕ)
-    (says : meaning r ≡ answer outcome) (leaves : next ≡ areaAfter outcome area) where
-  of-plan : (P : ℕ → Type 0) → ((p : Plan) → outcome ≡ accepted p → HasSet P p) → OfPlan r next P
-  unfolding areaAfter
-  of-plan P made bytes moves e =
-      let a = answered outcome _ (sym (ap meaning e) ∙ says) in
-      let f = made (a .0) (a .1) in
-      let there : next ≡ splice area 0 (planBytes (f .instance) (f .set) (f .total) (f .moves)) =
-      leaves ∙ ap (λ o. areaAfter o area) (a .1) ∙ ap (λ (q : Plan). splice area 0 (q .bytes)) (f .is) in
-      let long : bytes ≡ length (planBytes (f .instance) (f .set) (f .total) (f .moves)) =
-      ap (λ (x : Result). x .bytes) (a .2) ∙ ap (λ (q : Plan). length (q .bytes)) (f .is) in
-      let read-off : planSet next bytes ≡ f .set =
-      ap₂ planSet there long ∙ plan-set (f .instance) (f .set) (f .total) (f .moves) area (f .few) (f .small) in
-      subst P (sym read-off) (f .holds)
 
 -- ---- the sets that the searches end in
 
@@ -63,34 +31,32 @@ unfolding instanceOf instanceBy
 facilities-are s = refl
 
 module _ (s : List ℕ) (w : WithinBounds (instanceOf s)) where
-  open-set : (P : ℕ → Type 0) → P (openSearch (instanceOf s) (openStart (instanceOf s)) .set) → HasSet P (openPlan (instanceOf s))
+  open-set : PlanOf (openSearch (instanceOf s) (openStart (instanceOf s)) .set) (openPlan (instanceOf s))
   unfolding openPlan planOf openEnd settledAt
-  open-set P holds =
+  open-set =
       record {
         instance = instanceOf s;
-        set = _;
         total = _;
         moves = _;
         is = refl;
         few = w .few-facilities;
         small = open-plan-keeps (instanceOf s) (w .some-facilities) .0;
-        holds = holds;
       }
 
-  limited-set : (k : ℕ) → k ≤ instanceOf s .facilities → (P : ℕ → Type 0)
-      → P (limitedSearch (instanceOf s) (limitedStart k) .set) → HasSet P (limitedPlan (instanceOf s) k)
+  limited-set : (k : ℕ) → k ≤ instanceOf s .facilities → PlanOf (limitedSearch (instanceOf s) (limitedStart k) .set) (limitedPlan (instanceOf s) k)
   unfolding limitedPlan planOf limitedEnd settledAt
-  limited-set k within P holds =
+  limited-set k within =
       record {
         instance = instanceOf s;
-        set = _;
         total = _;
         moves = _;
         is = refl;
         few = w .few-facilities;
         small = limited-plan-keeps (instanceOf s) k within .0;
-        holds = holds;
       }
+
+  limited-size : (k : ℕ) → k ≤ instanceOf s .facilities → OfSize s k (limitedSearch (instanceOf s) (limitedStart k) .set)
+  limited-size k within = rw (← facilities-are s) (limited-plan-keeps (instanceOf s) k within .1)
 
   open-no-lower : NoOpenMove s (openSearch (instanceOf s) (openStart (instanceOf s)) .set)
   unfolding openSearch instanceOf instanceBy
@@ -100,17 +66,34 @@ module _ (s : List ℕ) (w : WithinBounds (instanceOf s)) where
   unfolding limitedSearch instanceOf instanceBy
   limited-no-lower k = search-ends (limitedCost (instanceOf s)) (swaps (yards s)) (limitedStart k) .no-lower
 
+  -- each factor is that of the theorem
   open-within : BoundedByRivals s (openSearch (instanceOf s) (openStart (instanceOf s)) .set)
-  unfolding totalCost
   open-within rival some =
-      let b = open-plan-bound (instanceOf s) (w .is-metric) (w .some-facilities) rival (rw (facilities-are s) some) in
-      record { hauls = b .service; fees = b .opening; total = omega (arith, b .service, b .opening) }
+      let some-rival : any (instanceOf s .facilities) rival ≡ true = rw (facilities-are s) some in
+      let b = open-plan-bound (instanceOf s) (w .is-metric) (w .some-facilities) rival some-rival in
+      record {
+        hauls = b .service;
+        fees = b .opening;
+        total = open-plan-thrice (instanceOf s) (w .is-metric) (w .some-facilities) rival some-rival;
+      }
 
   limited-within : (k : ℕ) → k ≤ instanceOf s .facilities → BoundedByRivalsOf s k (limitedSearch (instanceOf s) (limitedStart k) .set)
   limited-within k within rival some few =
       let a = arg-least (yards s) rival (λ i. 0) some in
       limited-plan-bound (instanceOf s) (w .is-metric) k within rival
       (rw (facilities-are s) (count-some (yards s) _ rival (a .below) (a .is-in))) (rw (facilities-are s) few)
+
+-- ---- the plans that the calls make are those of the sets that the searches end in
+
+pub open-plan-of : (s : List ℕ) (room : ℕ) (p : Plan) → openPlanning s room ≡ accepted p
+    → PlanOf (openSearch (instanceOf s) (openStart (instanceOf s)) .set) p
+open-plan-of s room p e = let h = open-when s room p e in rw (h .3) (open-set s (door s (h .0) (h .1) (h .2)))
+
+pub limited-plan-of : (s : List ℕ) (k room : ℕ) (p : Plan) → limitedPlanning s k room ≡ accepted p
+    → PlanOf (limitedSearch (instanceOf s) (limitedStart k) .set) p
+limited-plan-of s k room p e = let h = limited-when s k room p e in
+    let within : k ≤ instanceOf s .facilities = rw (facilities-are s, accepts s (h .0) (h .1) (h .2) .has .yards-are) (h .3) in
+    rw (h .4) (limited-set s (door s (h .0) (h .1) (h .2)) k within)
 
 -- ---- the promises of the calls
 
@@ -120,7 +103,7 @@ module _ (s : List ℕ) (r : Planned) (area next : List ℕ) where
     open-of P holds =
         of-plan (openPlanning s (length area)) r area next says leaves P
         (λ p e. let h = open-when s (length area) p e in let w = door s (h .0) (h .1) (h .2) in
-        rw (h .3) (open-set s w P (holds w)))
+        (_, open-plan-of s (length area) p e, holds w))
 
     pub open-settled : OpenPlanSettled s r next
     open-settled = open-of (NoOpenMove s) (open-no-lower s)
@@ -136,7 +119,10 @@ module _ (s : List ℕ) (r : Planned) (area next : List ℕ) where
         of-plan (limitedPlanning s k (length area)) r area next says leaves P
         (λ p e. let h = limited-when s k (length area) p e in let w = door s (h .0) (h .1) (h .2) in
         let within : k ≤ instanceOf s .facilities = rw (facilities-are s, accepts s (h .0) (h .1) (h .2) .has .yards-are) (h .3) in
-        rw (h .4) (limited-set s w k within P (holds w within)))
+        (_, limited-plan-of s k (length area) p e, holds w within))
+
+    pub limited-sized : LimitedPlanSized s k r next
+    limited-sized = limited-of (OfSize s k) (λ w within. limited-size s w k within)
 
     pub limited-settled : LimitedPlanSettled s r next
     limited-settled = limited-of (NoLimitedMove s) (λ w within. limited-no-lower s w k)
@@ -153,5 +139,5 @@ module _ (s : List ℕ) (r : Planned) (area next : List ℕ) where
   pub limited-promises : (k : ℕ)
       → (meaning r ≡ answer (limitedPlanning s k (length area))) × (next ≡ areaAfter (limitedPlanning s k (length area)) area)
       → (meaning r ≡ answer (limitedPlanning s k (length area))) × ((next ≡ areaAfter (limitedPlanning s k (length area)) area)
-      × (LimitedPlanSettled s r next × LimitedPlanBounded s k r next))
-  limited-promises k h = (h .0, (h .1, (limited-settled k (h .0) (h .1), limited-bounded k (h .0) (h .1))))
+      × (LimitedPlanSized s k r next × (LimitedPlanSettled s r next × LimitedPlanBounded s k r next)))
+  limited-promises k h = (h .0, (h .1, (limited-sized k (h .0) (h .1), (limited-settled k (h .0) (h .1), limited-bounded k (h .0) (h .1)))))

@@ -1,6 +1,6 @@
--- What a buyer looks for in a plan, in readable words: that no move is left which lowers its cost, and demand 3 of the letter.
--- Both are said of the set that is read off the records of kind 4F in the area at exit; both buyers are priced by the costs of
--- the sheet's instance, never by the printed total.
+-- What a buyer looks for in a plan, in readable words: that a limited list has the number of yards asked for, that no move is left
+-- which lowers its cost, and demand 3 of the letter. All are said of the set that is read off the records of kind 4F in the area at
+-- exit (`OfPlan`); both buyers are priced by the costs of the sheet's instance, never by the printed total.
 use Prim.Native.Nat.{ℕ, _+_, _*_, _≤_}
 use mathlib.Core.Path.{_≡_}
 use mathlib.Core.Bool.{Bool, true}
@@ -12,13 +12,17 @@ use Rattle.model.specs.Neighbours.{swaps, addDropSwap}
 use Rattle.model.specs.Search.{NoLower}
 use Rattle.model.specs.Plans.{openCost, limitedCost}
 use Rattle.sheet.specs.Sheet.{yards, instanceOf}
-use Rattle.price.specs.Plan.{planSet}
+use Rattle.price.specs.Pricing.{OfPlan}
 use Rattle.price.specs.declared.Planned.{Planned}
-use Rattle.price.specs.declared.Planned.the-variants.{Written}
 
--- what holds of the set in the area, where the call wrote a plan
-abbrev pub OfPlan : Planned → List ℕ → (ℕ → Type 0) → Type 0
-OfPlan r area P = (bytes moves : ℕ) → r ≡ Written bytes moves → P (planSet area bytes)
+-- ---- "the limited list, for a set number of yards"
+
+-- the set has k yards
+abbrev pub OfSize : List ℕ → ℕ → ℕ → Type 0
+OfSize s k set = count (yards s) (member set) ≡ k
+
+abbrev pub LimitedPlanSized : List ℕ → ℕ → Planned → List ℕ → Type 0
+LimitedPlanSized s k r area = OfPlan r area (OfSize s k)
 
 -- ---- "no move left that lowers it" (demand 2)
 

@@ -1,31 +1,10 @@
--- What the functions of the search hand on: a set with its cost, the kind of moves, and the set that a search ends in.
+-- Where the searches of the two plans end, and the plan of such a set.
 use Prim.Native.Nat.{ℕ}
-use mathlib.Core.Path.{_≡_}
-use mathlib.Core.List.{List}
 use Rattle.model.specs.Instance.{Instance}
-use Rattle.model.specs.Neighbours.{swaps, addDropSwap}
 use Rattle.model.specs.Search.{Reached}
 use Rattle.model.specs.Plans.{openCost, openStart, openSearch, limitedCost, limitedStart, limitedSearch}
 use Rattle.price.specs.Pricing.{Plan, plan}
-use Rattle.search.specs.Tables.{Tables, tableCost}
-use Rattle.search.specs.declared.moves.Priced.{Priced}
-use Rattle.search.specs.declared.moves.Neighbourhood.{Neighbourhood}
-use Rattle.search.specs.declared.moves.Neighbourhood.the-variants.{AddDropSwap, Swap}
-use Rattle.search.specs.declared.descent.Settled.{Settled}
-
--- a set with its cost
-unfoldable pub priced : (ℕ → ℕ) → ℕ → Priced
-priced cost set = record { set = set; cost = cost set }
-
--- what private functions require: tables, and a set with its cost by them
-pub record Ready (m n : ℕ) (opening service : List ℕ) (b : Priced) : Type 0 where
-  pub tables : Tables m n opening service
-  pub right : b ≡ priced (tableCost m n opening service) (b .set)
-
--- an open plan adds, drops and swaps, a limited plan swaps alone
-unfoldable pub neighboursBy : Neighbourhood → ℕ → ℕ → List ℕ
-neighboursBy AddDropSwap m set = addDropSwap m set
-neighboursBy Swap m set = swaps m set
+use Rattle.search.specs.declared.planning.Settled.{Settled}
 
 -- what a search reached, with the cost of its set
 unfoldable pub settledAt : (ℕ → ℕ) → Reached → Settled

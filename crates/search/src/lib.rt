@@ -1,23 +1,16 @@
 // The two plans: local search over sets of yards from document 01's starts, by its moves.
 //
 // `open_plan` goes by fees and hauls and adds, drops and swaps yards; `limited_plan` keeps k yards and goes by hauls alone. Both read
-// the sheet once into tables and run the same search on them, which prices every move by sums that it keeps from move to move.
-// Every call is total.
-mod clients;
-mod cost;
-mod descent;
-mod moves;
-mod near;
+// the sheet once into tables and run the same search on them, that of `engine`. Every call is total.
 mod planning;
-mod prices;
 mod tables;
 
 ghost use mathlib.Core.Path.{_≡_};
 ghost use lib.ListN.{length};
 ghost use Rattle.price.specs.Pricing.{meaning, answer, areaAfter};
 ghost use Rattle.search.specs.Planning.{openPlanning, limitedPlanning};
-ghost use Rattle.search.specs.Promises.{OpenPlanSettled, OpenPlanBounded, LimitedPlanSettled, LimitedPlanBounded};
-use moves::Neighbourhood;
+ghost use Rattle.search.specs.Promises.{OpenPlanSettled, OpenPlanBounded, LimitedPlanSized, LimitedPlanSettled, LimitedPlanBounded};
+use engine::Neighbourhood;
 use planning::plan_with;
 use price::Planned;
 
@@ -35,6 +28,7 @@ pub fn open_plan(sheet: &[u8], area: &mut [u8]) -> Planned
 pub fn limited_plan(sheet: &[u8], k: usize, area: &mut [u8]) -> Planned
     ensures answer { λ r. ⌜ meaning r ≡ answer (limitedPlanning (now (sheet .entry)) k (length (now (area .entry)))) ⌝ }
     ensures area { λ r. ⌜ now (area .exit) ≡ areaAfter (limitedPlanning (now (sheet .entry)) k (length (now (area .entry)))) (now (area .entry)) ⌝ }
+    ensures sized { λ r. ⌜ LimitedPlanSized (now (sheet .entry)) k r (now (area .exit)) ⌝ }
     ensures settled { λ r. ⌜ LimitedPlanSettled (now (sheet .entry)) r (now (area .exit)) ⌝ }
     ensures bounded { λ r. ⌜ LimitedPlanBounded (now (sheet .entry)) k r (now (area .exit)) ⌝ }
 {

@@ -9,5 +9,6 @@ pub mod HaulLaws
 pub mod AcceptedLaws
 pub mod FarmLaws
 pub mod OnePassLaws
-pub mod RestLaws
+pub mod ToldLaws
 pub mod CostBounds
+pub mod Limits

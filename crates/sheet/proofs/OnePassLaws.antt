@@ -1,22 +1,23 @@
--- The one pass: a record is told by its first four bytes as one number, and a sheet on which every record is the one of its
--- place passes questions 2 to 5.
+-- The one pass: a sheet on which every record is the one of its place passes questions 2 to 5.
 use Prim.Native.Nat.{ℕ, zero, _+_, _-_, _*_, _/_, _%_, _≤_, _<_}
 use native.Mathlib.Nat.{zero-add, mod-lt, mod-add-div', div-lt-iff-lt-mul}
 use native.Mathlib.Decide.{decLt}
 use native.Mathlib.Omega.{arith}
-use mathlib.Core.Path.{_≡_, sym, subst, _∙_}
-use mathlib.Core.Bool.{true, false, _&&_}
+use mathlib.Core.Path.{_≡_, sym, ap, subst, _∙_}
+use mathlib.Core.Bool.{Bool, true}
 use mathlib.Core.List.{List}
 use borrow.Author.Tests.{eq-eqb, le-leb, eqb-true, leb-true}
-use lib.Dec.{eqb, leb}
+use lib.Dec.{eqb}
 use Rattle.model.specs.Loops.{allBelow}
-use Rattle.model.proofs.Bools.{fails, and-left, and-right, and-both}
+use Rattle.model.proofs.Bools.{and-left, and-right, and-both}
 use Rattle.model.proofs.LoopLaws.{all-at, all-from}
+use Rattle.four_point.specs.Table.{costLimit}
 use Rattle.sheet.specs.declared.record.Record.{Record}
-use Rattle.sheet.specs.Records.{word, recordAt, wellFormed}
-use Rattle.sheet.specs.Sheet.{records, isYard, yards, hauls, farms, place}
+use Rattle.sheet.specs.Records.{recordAt, wellFormed}
+use Rattle.sheet.specs.Sheet.{records, isYard, yards, hauls, farms, place, haul}
 use Rattle.sheet.specs.Questions.{question1, question2, question3, question4, question5, wellFormedAt, numbered, noYardAfter, haulInPlace, farmInPlace, amountWithin}
 use Rattle.sheet.specs.OnePass.{recordIs, goodYard, goodHaul, goodFarm, Passes}
+use Rattle.sheet.proofs.ReadingLaws.{Formed, form-yes, amounts-yes}
 use Rattle.sheet.proofs.QuestionLaws.{well-numbered, even, fees-good}
 use Rattle.sheet.proofs.FormLaws.{hauls-are}
 
@@ -24,50 +25,39 @@ use Rattle.sheet.proofs.FormLaws.{hauls-are}
 
 -- what the test of a record says of it
 record Said (r : Record) (kind yard farm most : ℕ) : Type 0 where
+  is-well-formed : wellFormed r ≡ true
   kind-is : r .kind ≡ kind
   yard-is : r .yard ≡ yard
   farm-is : r .farm ≡ farm
-  byte3-is : r .byte3 ≡ 0
   within : r .amount ≤ most
 
 module _ (r : Record) (kind yard farm most : ℕ) where
   says : recordIs r kind yard farm most ≡ true → Said r kind yard farm most
   unfolding recordIs
   says h =
-      let head = and-left _ (leb (r .amount) most) h in
-      let rest = and-right (eqb (r .kind) kind) _ head in
-      let last = and-right (eqb (r .yard) yard) _ rest in
+      let at-place = and-right (wellFormed r) _ h in
+      let numbers = and-right (eqb (r .kind) kind) _ at-place in
+      let last = and-right (eqb (r .yard) yard) _ numbers in
       record {
-        kind-is = eqb-true (r .kind) kind (and-left _ _ head);
-        yard-is = eqb-true (r .yard) yard (and-left _ _ rest);
+        is-well-formed = and-left _ _ h;
+        kind-is = eqb-true (r .kind) kind (and-left _ _ at-place);
+        yard-is = eqb-true (r .yard) yard (and-left _ _ numbers);
         farm-is = eqb-true (r .farm) farm (and-left _ _ last);
-        byte3-is = eqb-true (r .byte3) 0 (and-right (eqb (r .farm) farm) _ last);
-        within = leb-true (r .amount) most (and-right (eqb (r .kind) kind && (eqb (r .yard) yard && (eqb (r .farm) farm && eqb (r .byte3) 0))) _ h);
+        within = leb-true (r .amount) most (and-right (eqb (r .farm) farm) _ last);
       }
 
-  module _ {head wanted : ℕ} (h : head ≡ word (r .kind) (r .yard) (r .farm) (r .byte3)) (w : wanted ≡ word kind yard farm 0) where
-    pub other-head : ¬ (head ≡ wanted) → recordIs r kind yard farm most ≡ false
-    other-head other = fails (λ t. let s = says t in other (h ∙ rw (s .kind-is, s .yard-is, s .farm-is, s .byte3-is) (sym w)))
+-- what the pass learns of the record at the place of a haul
+module _ (s : List ℕ) (m p a : ℕ) (r : Record) (b : Bool) (is : r ≡ recordAt s (place m p a)) (tested : b ≡ recordIs r 0x48 a p 1000000) where
+  pub haul-tested : b ≡ goodHaul s m p a
+  unfolding goodHaul
+  haul-tested = tested ∙ ap (λ x. recordIs x 0x48 a p 1000000) is
 
-    -- four bytes are told by their number
-    pub same-head : head ≡ wanted → r .kind < 256 → r .yard < 256 → r .farm < 256 → kind < 256 → yard < 256 → farm < 256
-        → recordIs r kind yard farm most ≡ leb (r .amount) most
-    unfolding recordIs
-    same-head e k y f k′ y′ f′ =
-        rw (
-          eq-eqb (r .kind) kind (omega arith),
-          eq-eqb (r .yard) yard (omega arith),
-          eq-eqb (r .farm) farm (omega arith),
-          eq-eqb (r .byte3) 0 (omega arith),
-        )
+  pub haul-read : r .amount ≡ haul s m a p
+  unfolding haul
+  haul-read = ap (λ (x : Record). x .amount) is
 
-yard-well-formed : (r : Record) (i most : ℕ) → Said r 0x59 i 0 most → wellFormed r ≡ true
-unfolding wellFormed
-yard-well-formed r i most h = rw (h .kind-is, h .farm-is, h .byte3-is)
-
-haul-well-formed : (r : Record) (a p most : ℕ) → Said r 0x48 a p most → wellFormed r ≡ true
-unfolding wellFormed
-haul-well-formed r a p most h = rw (h .kind-is, h .byte3-is)
+  pub haul-low : b ≡ true → r .amount < costLimit
+  haul-low e = omega (arith, says r 0x48 a p 1000000 (sym tested ∙ e) .within)
 
 -- ---- the sheet
 
@@ -97,11 +87,11 @@ module _ (s : List ℕ) (some-yards : 1 ≤ yards s) (few-yards : yards s ≤ 32
   second =
       all-from (wellFormedAt s) (records s)
       (λ i l. elim (decLt i (yards s)) [
-        | yes b ↦ yard-well-formed (recordAt s i) i 50000000 (yard-said i b)
+        | yes b ↦ yard-said i b .is-well-formed
         | no g ↦
             let k = i - yards s in
             subst (λ (j : ℕ). wellFormed (recordAt s j) ≡ true) (omega arith)
-            (haul-well-formed (recordAt s (yards s + k)) (k % yards s) (k / yards s) 1000000 (haul-said-at k (omega (arith, hauls-are s))))
+            (haul-said-at k (omega (arith, hauls-are s)) .is-well-formed)
       ])
 
   third : question3 s ≡ true
@@ -141,12 +131,5 @@ passes s m n y f first some few some-farms few-farms e yards-good farms-good =
     let d : farms s ≤ 128 = omega arith in
     let g : allBelow (yards s) (goodYard s) ≡ true = rw (← y) yards-good in
     let h : allBelow (farms s) (goodFarm s (yards s)) ≡ true = rw (← y, ← f) farms-good in
-    record {
-      first = first;
-      second = second s a b c d shared g h;
-      third = third s a b c d shared g h;
-      fourth = fourth s a b c d shared g h;
-      fifth = fifth s a b c d shared g h;
-      yards-are = sym y;
-      farms-are = sym f;
-    }
+    let formed : Formed s = record { first = first; second = second s a b c d shared g h; third = third s a b c d shared g h; fourth = fourth s a b c d shared g h } in
+    rw (y, f) (amounts-yes s (form-yes s formed) (fifth s a b c d shared g h))

@@ -1,7 +1,7 @@
 -- Laws of reading: each refusal number comes exactly when its question is the first that is answered no.
 use Prim.Native.Nat.{ℕ, _≤_}
 use native.Mathlib.Omega.{arith}
-use mathlib.Core.Path.{_≡_, refl, sym, ap, ap₂, subst, _∙_}
+use mathlib.Core.Path.{_≡_, refl, sym, ap, subst, _∙_}
 use mathlib.Core.Logic.{_⊎_, inl, inr}
 use mathlib.Core.Bool.{Bool, true, false}
 use mathlib.Core.List.{List}
@@ -11,7 +11,7 @@ use Rattle.sheet.specs.Answers.{Answer, accepted, refused, ask, after}
 use Rattle.sheet.specs.Sheet.{yards, farms, instanceOf}
 use Rattle.sheet.specs.Questions.{question1, question2, question3, question4, question5, question6}
 use Rattle.sheet.specs.Reading.{Counts, counts, form, reading}
-use Rattle.sheet.specs.OnePass.{Passes, formAndAmounts}
+use Rattle.sheet.specs.OnePass.{formAndAmounts}
 
 -- questions 1 to 4 are answered yes
 pub record Formed (s : List ℕ) : Type 0 where
@@ -44,6 +44,16 @@ same-result h = cc
 -- no answer is both
 pub apart : {A : Type 0} {x : A} {k : ℕ} → accepted x ≡ refused k → ⊥
 apart h = let z : _≡_ {A = ℕ} 0 1 = cc in omega arith
+
+-- a chain of questions that ends accepted had each answered yes
+pub asked : {A : Type 0} (b : Bool) (k : ℕ) (rest : Answer A) (x : A) → ask b k rest ≡ accepted x → (b ≡ true) × (rest ≡ accepted x)
+asked true k rest x h = (refl, h)
+asked false k rest x h = absurd (apart (sym h))
+
+pub read-first : {A : Type 0} (r : Answer Counts) (f : Counts → Answer A) (x : A) → after r f ≡ accepted x
+    → (c : Counts) × (r ≡ accepted c) × (f c ≡ accepted x)
+read-first (accepted c) f x h = (c, refl, h)
+read-first (refused k) f x h = absurd (apart (sym h))
 
 module _ (s : List ℕ) where
   -- ---- from the answers to the form, and to the reading
@@ -172,12 +182,6 @@ module _ (s : List ℕ) where
 -- ---- questions 1 to 5
 
 module _ (s : List ℕ) where
-  -- a sheet that passes them in one pass
-  pub passes-form : {m n : ℕ} → Passes s m n → form s ≡ accepted (counts m n)
-  passes-form y =
-      form-yes s record { first = y .first; second = y .second; third = y .third; fourth = y .fourth }
-      ∙ ap₂ (λ m n. accepted (counts m n)) (y .yards-are) (y .farms-are)
-
   pub amounts-form : (k : ℕ) → form s ≡ refused k → formAndAmounts s ≡ refused k
   unfolding formAndAmounts
   amounts-form k f = rw f

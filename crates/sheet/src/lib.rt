@@ -4,7 +4,6 @@
 // bytes at all. `Record` is the one place that knows the bytes of a record.
 mod amounts;
 mod form;
-mod hauls;
 mod one_pass;
 mod record;
 
@@ -14,6 +13,7 @@ pub use record::KIND_YARD;
 pub use record::Record;
 ghost use mathlib.Core.Path.{_≡_};
 ghost use Rattle.sheet.specs.Reading.{meaning, reading, stretch, farmHauls};
+use one_pass::OnePass;
 
 pub const MOST_YARDS: usize = 32;
 
@@ -29,14 +29,15 @@ pub enum Reading {
 pub fn read(sheet: &[u8]) -> Reading
     ensures { λ r. ⌜ meaning r ≡ reading (now (sheet .entry)) ⌝ }
 {
-    match one_pass::form_and_amounts_of(sheet) {
-        Reading::Accepted { yards, farms } => {
-            if !hauls::are_metric(sheet, yards, farms) {
+    let mut table = [0u32; four_point::PLACES];
+    match one_pass::counts_of(sheet, &mut table) {
+        OnePass::Good { yards, farms } => {
+            if !four_point::keeps_rule(&table, yards, farms) {
                 return Reading::Refused(6);
             }
             Reading::Accepted { yards, farms }
         }
-        Reading::Refused(k) => Reading::Refused(k),
+        OnePass::Faulty => amounts::form_and_amounts_of(sheet),
     }
 }
 
@@ -45,7 +46,7 @@ pub fn read(sheet: &[u8]) -> Reading
 pub fn farm_hauls(sheet: &[u8], farm: usize) -> &[u8]
     ensures { λ r. ⌜ now r ≡ farmHauls (now (sheet .entry)) farm ⌝ }
 {
-    match one_pass::form_of(sheet) {
+    match form::form_of(sheet) {
         Reading::Accepted { yards, farms } => {
             if farm < farms {
                 farm_stretch(sheet, yards, farm)

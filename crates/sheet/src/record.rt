@@ -3,7 +3,7 @@ ghost use mathlib.Core.Path.{_≡_};
 ghost use Prim.Native.Nat.{_+_, _*_, _≤_};
 ghost use lib.ListN.{length};
 ghost use Rattle.sheet.specs.Records.{word, wordBytes, recordOf, recordAt, wholeRecordAt, splice, putAt, wellFormed};
-ghost use Rattle.sheet.specs.OnePass.{recordIs, NumberIs};
+ghost use Rattle.sheet.specs.OnePass.{recordIs};
 
 pub const KIND_YARD: u8 = 0x59;
 
@@ -20,13 +20,6 @@ pub struct Record {
 impl Record {
     // The bytes of a record.
     pub const LEN: usize = 8;
-
-    // What one of a field counts in the number that a record is.
-    pub(crate) const YARD: u64 = 256;
-
-    pub(crate) const FARM: u64 = 65536;
-
-    pub(crate) const AMOUNT: u64 = 4294967296;
 
     pub fn new(kind: u8, yard: u8, farm: u8, byte3: u8, amount: u32) -> Self
         ensures { λ r. ⌜ r ≡ recordOf kind yard farm byte3 amount ⌝ }
@@ -90,20 +83,14 @@ impl Record {
         }
     }
 
-    // The record as one number: its bytes, lowest first.
-    pub(crate) fn number(self) -> u64
-        ensures { λ r. ⌜ NumberIs self r ⌝ }
-    {
-        let head = word32(self.kind, self.yard, self.farm, self.byte3);
-        (head as u64) + Record::AMOUNT * (self.amount as u64)
-    }
-
-    // Bytes 0 to 3 are these three and zero, and the amount is at most `most`: one comparison of four bytes, one of the amount.
+    // The record that a place asks for: well-formed, of this kind, with this yard and this farm, the amount at most `most`.
     pub(crate) fn is(self, kind: u8, yard: u8, farm: u8, most: u32) -> bool
         ensures { λ r. ⌜ r ≡ recordIs self kind yard farm most ⌝ }
     {
-        let head = word32(self.kind, self.yard, self.farm, self.byte3);
-        head == word32(kind, yard, farm, 0) && self.amount <= most
+        if !self.well_formed() {
+            return false;
+        }
+        self.kind == kind && (self.yard == yard && (self.farm == farm && self.amount <= most))
     }
 }
 

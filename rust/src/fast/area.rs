@@ -1,14 +1,15 @@
 //! The plan area.
 use super::near::{HaulTo, Yards};
 use super::sheet::{Amounts, Hauls};
+use super::sum::Sum;
 use crate::format::{record, FARM, MOVES, OPEN, RECORD, TOTAL};
 use crate::Written;
 
 /// Writes the plan that opens these yards and serves each farm so. Its total counts these fees.
-pub fn write(
+pub fn write<S: Sum>(
     hauls: &Hauls,
     yards: &Yards,
-    served: impl Iterator<Item = HaulTo>,
+    served: impl Iterator<Item = HaulTo<S>>,
     fees: &Amounts,
     moves: u32,
     area: &mut [u8],

@@ -3,12 +3,13 @@ use super::area;
 use super::near::{Near, Yards};
 use super::prices::Prices;
 use super::sheet::{Amounts, Hauls};
+use super::sum::Sum;
 use crate::format::{MOST_FARMS, MOST_YARDS};
 use crate::Written;
 
 /// The open plan of an accepted sheet, in an area that question 9 accepts.
-pub fn open_plan_of(hauls: &Hauls, area: &mut [u8]) -> Written {
-    let mut search = Search::new(hauls, 1 << cheapest_yard(hauls));
+pub fn open_plan_of<S: Sum>(hauls: &Hauls, area: &mut [u8]) -> Written {
+    let mut search = Search::<S>::new(hauls, 1 << cheapest_yard::<S>(hauls));
     while let Some(next) = search.prices.open_move(hauls, search.set, &search.yards) {
         search.go_to(next);
     }
@@ -16,8 +17,8 @@ pub fn open_plan_of(hauls: &Hauls, area: &mut [u8]) -> Written {
 }
 
 /// The limited plan of an accepted sheet for a k that question 7 accepts, in an area that question 9 accepts.
-pub fn limited_plan_of(hauls: &Hauls, k: usize, area: &mut [u8]) -> Written {
-    let mut search = Search::new(hauls, u32::MAX >> (MOST_YARDS - k));
+pub fn limited_plan_of<S: Sum>(hauls: &Hauls, k: usize, area: &mut [u8]) -> Written {
+    let mut search = Search::<S>::new(hauls, u32::MAX >> (MOST_YARDS - k));
     while let Some(next) = search.prices.limited_move(search.set, &search.yards) {
         search.go_to(next);
     }
@@ -25,25 +26,25 @@ pub fn limited_plan_of(hauls: &Hauls, k: usize, area: &mut [u8]) -> Written {
 }
 
 /// The single yard of least full cost, the lowest number among equals.
-fn cheapest_yard(hauls: &Hauls) -> usize {
-    let alone = hauls.alone();
-    (0..hauls.yards).min_by_key(|&yard| hauls.fees[yard] + alone[yard]).unwrap_or(0)
+fn cheapest_yard<S: Sum>(hauls: &Hauls) -> usize {
+    let alone = hauls.alone::<S>();
+    (0..hauls.yards).min_by_key(|&yard| S::from(hauls.fees[yard]) + alone[yard]).unwrap_or(0)
 }
 
 /// A set on the way, with each farm's nearest yards and the costs of all moves.
-struct Search<'a> {
+struct Search<'a, S> {
     hauls: &'a Hauls,
     set: u32,
     yards: Yards,
     moves: u32,
-    near: [Near; MOST_FARMS],
-    prices: Prices,
+    near: [Near<S>; MOST_FARMS],
+    prices: Prices<S>,
 }
 
-impl<'a> Search<'a> {
-    fn new(hauls: &'a Hauls, set: u32) -> Search<'a> {
+impl<'a, S: Sum> Search<'a, S> {
+    fn new(hauls: &'a Hauls, set: u32) -> Search<'a, S> {
         let yards = Yards::of(set);
-        let mut near = [Near::NONE; MOST_FARMS];
+        let mut near = [Near::none(); MOST_FARMS];
         let mut prices = Prices::none(hauls);
         for (rows, near) in hauls.rows_by_four().iter().zip(near.as_chunks_mut().0) {
             *near = Near::of_four(rows, &yards);
@@ -71,7 +72,7 @@ impl<'a> Search<'a> {
 
     /// The farms that pass the test: a loop of its own for each kind of move.
     #[inline(always)]
-    fn price_again(&mut self, came: u32, went: u32, touched: impl Fn(&Amounts, Near) -> bool) {
+    fn price_again(&mut self, came: u32, went: u32, touched: impl Fn(&Amounts, Near<S>) -> bool) {
         let yard = came.trailing_zeros() as usize % MOST_YARDS;
         for (row, near) in self.hauls.rows().iter().zip(&mut self.near) {
             let before = *near;

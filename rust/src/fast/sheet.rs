@@ -1,5 +1,6 @@
 //! Questions 1 to 5, and a sheet as a table.
 use super::rule;
+use super::sum::Sum;
 use crate::format::{
     HAUL, HIGHEST_FEE, HIGHEST_HAUL, LONGEST_SHEET, MOST_FARMS, MOST_YARDS, RECORD, SHORTEST_SHEET, YARD,
 };
@@ -34,11 +35,11 @@ impl Hauls {
     }
 
     /// The haul cost of each yard by itself.
-    pub fn alone(&self) -> Amounts {
-        let mut costs = [0; MOST_YARDS];
+    pub fn alone<S: Sum>(&self) -> [S; MOST_YARDS] {
+        let mut costs = [S::default(); MOST_YARDS];
         for row in self.rows() {
-            for (cost, haul) in costs.iter_mut().zip(row) {
-                *cost += haul;
+            for (cost, &haul) in costs.iter_mut().zip(row) {
+                *cost += S::from(haul);
             }
         }
         costs

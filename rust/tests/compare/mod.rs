@@ -37,8 +37,8 @@ pub fn every_call(sample: &Sample, seed: u64, tally: &mut Tally) {
 }
 
 impl<'a> Comparison<'a> {
-    fn new(three: &'a [Calls; 3], sample: &'a Sample, seed: u64, tally: &'a mut Tally) -> Comparison<'a> {
-        let [library, others @ ..] = three;
+    fn new(all: &'a [Calls; 4], sample: &'a Sample, seed: u64, tally: &'a mut Tally) -> Comparison<'a> {
+        let [library, others @ ..] = all;
         Comparison { library, others, sample, before: sample.sheet.clone(), seed, random: Random::new(!seed), tally }
     }
 

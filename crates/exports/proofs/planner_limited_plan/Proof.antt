@@ -1,6 +1,6 @@
 -- `planner_limited_plan` meets its contract: `search::limited_plan` does, and its answers keep to their bits.
 use mathlib.Core.Path.{sym, ap, subst, _∙_}
-use Rattle.search.specs.Promises.{NoLimitedMove, BoundedByRivalsOf}
+use Rattle.search.specs.Promises.{OfSize, NoLimitedMove, BoundedByRivalsOf}
 use Rattle.exports.specs.Numbers.{resultNumber, Within}
 use Rattle.exports.proofs.NumberLaws.{limited-within, of-written}
 use borrow.Author.Needs.{needs}
@@ -26,8 +26,11 @@ returns c = let planned = c .before .before .before .limited-plan in
       (
         planned .ensures .1 .0,
         (
-          of-written _ area (NoLimitedMove sheet) (planned .result) bits (c .number .ensures) (planned .ensures .1 .1 .0),
-          of-written _ area (BoundedByRivalsOf sheet (start .args .k)) (planned .result) bits (c .number .ensures) (planned .ensures .1 .1 .1),
+          of-written _ area (OfSize sheet (start .args .k)) (planned .result) bits (c .number .ensures) (planned .ensures .1 .1 .0),
+          (
+            of-written _ area (NoLimitedMove sheet) (planned .result) bits (c .number .ensures) (planned .ensures .1 .1 .1 .0),
+            of-written _ area (BoundedByRivalsOf sheet (start .args .k)) (planned .result) bits (c .number .ensures) (planned .ensures .1 .1 .1 .1),
+          ),
         ),
       ),
     )

@@ -1,7 +1,7 @@
 -- `planner_price` meets its contract: `price::price` does, and its answers keep to their bits.
-use mathlib.Core.Path.{sym, ap, subst, _∙_}
+use mathlib.Core.Path.{_≡_, sym, ap, subst, _∙_}
 use Rattle.exports.specs.Numbers.{resultNumber, Within}
-use Rattle.exports.proofs.NumberLaws.{pricing-within}
+use Rattle.exports.proofs.NumberLaws.{pricing-within, of-written}
 use borrow.Author.Needs.{needs}
 use Rattle.exports.proofs.planner_price.Statement.{statement}
 use Rattle.exports.proofs.planner_price.Tie as tie
@@ -17,7 +17,14 @@ same-length c = search needs
 
 returns : tie.Need-returns
 returns c = let priced = c .before .before .before .price in
-    (c .number .ensures ∙ ap resultNumber (priced .ensures .0), priced .ensures .1)
+    let start = c .before .before .before .before .before .before .before in
+    let bits = subst Within (sym (priced .ensures .0)) (pricing-within _ _ _) in (
+      c .number .ensures ∙ ap resultNumber (priced .ensures .0),
+      (
+        priced .ensures .1 .0,
+        of-written _ (priced .last .1 .1 .0) (λ kept. kept ≡ start .args .set) (priced .result) bits (c .number .ensures) (priced .ensures .1 .1),
+      ),
+    )
 
 pub planner-price-spec : {M : Type 1} → statement M
 planner-price-spec = tie.close (tie.spec price-requires number-requires same-length returns)

@@ -19,6 +19,9 @@ at-requires c κs = tt
 print-record-requires : tie.Need-print-record-requires Inv-loop μ-loop
 print-record-requires c κs = tt
 
+returns : tie.Need-returns Inv-loop μ-loop
+returns c = tt
+
 add-i : tie.Need-add-i Inv-loop μ-loop
 add-i c = omega arith
 
@@ -28,8 +31,8 @@ loop-less c = omega arith
 loop-again : tie.Need-loop-again Inv-loop μ-loop
 loop-again c = omega arith
 
-returns : tie.Need-returns Inv-loop μ-loop
-returns c = tt
+returns-2 : tie.Need-returns-2 Inv-loop μ-loop
+returns-2 c = tt
 
 pub print-plan-spec : {M : Type 1} → statement M
 print-plan-spec =
@@ -40,7 +43,8 @@ print-plan-spec =
     loop-holds
     at-requires
     print-record-requires
+    returns
     add-i
     loop-less
     loop-again
-    returns)
+    returns-2)

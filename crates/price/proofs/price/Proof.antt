@@ -1,4 +1,4 @@
--- `price` meets its contract: each arm is a case of `pricing`.
+-- `price` meets its contract: each arm is a case of `pricing`, which keeps the set given.
 use native.Mathlib.Omega.{arith}
 use mathlib.Core.Path.{sym, ap, _∙_}
 use Rattle.model.proofs.Bools.{said-no, said-yes}
@@ -6,6 +6,7 @@ use Rattle.sheet.specs.Reading.{meaning}
 use Rattle.sheet.proofs.AcceptedLaws.{accepts, shape-of}
 use Rattle.price.proofs.PlanLaws.{fits-says, fits-within, end-room, writes-all}
 use Rattle.price.proofs.PricingLaws.{refuses, unread, badly-marked, no-room, total-small, prices}
+use Rattle.price.proofs.OfPlanLaws.{pricing-promises}
 use borrow.Author.Needs.{needs}
 use Rattle.price.proofs.price.Statement.{statement}
 use Rattle.price.proofs.price.Tie as tie
@@ -27,15 +28,15 @@ returns : tie.Need-returns
 returns c = let asked = c .before in
     let arm = asked .before .before .before in
     let e = sym (arm .before .before .read .ensures) ∙ ap meaning (arm .yards .given .1) in
-    refuses _ _ 8 (badly-marked _ _ _ _ _ e (said-no (asked .before .set-good .ensures) (c .if1 .taken)))
+    pricing-promises _ _ _ (arm .before .before .before .before .before .args .area .now) _ (refuses _ _ 8 (badly-marked _ _ _ _ _ e (said-no (asked .before .set-good .ensures) (c .if1 .taken))))
 
 returns-2 : tie.Need-returns-2
 returns-2 c = let asked = c .before .before in
     let arm = asked .before .before .before in
     let e = sym (arm .before .before .read .ensures) ∙ ap meaning (arm .yards .given .1) in
     let f = accepts _ _ _ e .has in
-    refuses _ _ 9 (no-room _ _ _ _ _ e (said-yes (asked .before .set-good .ensures) (c .before .if1 .left))
-    (said-no (asked .plan-fits .ensures ∙ fits-within _ _ _ (f .few-yards) (f .few-farms)) (c .if2 .taken)))
+    pricing-promises _ _ _ (arm .before .before .before .before .before .args .area .now) _ (refuses _ _ 9 (no-room _ _ _ _ _ e (said-yes (asked .before .set-good .ensures) (c .before .if1 .left))
+    (said-no (asked .plan-fits .ensures ∙ fits-within _ _ _ (f .few-yards) (f .few-farms)) (c .if2 .taken))))
 
 put-body-requires : tie.Need-put-body-requires
 put-body-requires c κs = let asked = c .before .before .before in
@@ -73,12 +74,12 @@ returns-3 c = let put = c .before .before in
     let fits = said-yes (asked .plan-fits .ensures) (passed .if2 .left) in
     let written = writes-all _ _ _ _ _ _ _ _ _ _ _ fits (f .room) (body .put-body .ensures .0) (body .put-body .ensures .1 .1)
     (put .put-end .ensures .0) (put .put-end .ensures .1) in
-    prices _ _ _ _ _ e (body .put-body .ensures .1 .0) _ _ _ (said-yes (asked .before .set-good .ensures) (passed .before .if1 .left))
-    (sym (fits-within _ _ _ (f .few-yards) (f .few-farms)) ∙ fits) (written .0) (written .1)
+    pricing-promises _ _ _ (arm .before .before .before .before .before .args .area .now) _ (prices _ _ _ _ _ e (body .put-body .ensures .1 .0) _ _ _ (said-yes (asked .before .set-good .ensures) (passed .before .if1 .left))
+    (sym (fits-within _ _ _ (f .few-yards) (f .few-farms)) ∙ fits) (written .0) (written .1))
 
 returns-4 : tie.Need-returns-4
 returns-4 c = let arm = c .before in
-    refuses _ _ _ (unread _ _ _ _ (sym (arm .before .before .read .ensures) ∙ ap meaning (arm .k .given .1)))
+    pricing-promises _ _ _ (arm .before .before .before .before .before .args .area .now) _ (refuses _ _ _ (unread _ _ _ _ (sym (arm .before .before .read .ensures) ∙ ap meaning (arm .k .given .1))))
 
 pub price-spec : {M : Type 1} → statement M
 price-spec =

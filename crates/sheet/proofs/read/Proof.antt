@@ -1,49 +1,65 @@
 -- `read` meets its contract: each `return` is a case of `reading`.
-use mathlib.Core.Path.{sym, ap, _∙_}
+use mathlib.Core.Path.{sym, subst, _∙_}
 use Rattle.model.proofs.Bools.{said-no, said-yes}
-use Rattle.sheet.specs.Reading.{meaning}
-use Rattle.sheet.proofs.ReadingLaws.{amounts-accepted, amounts-refused, reading-6, reading-yes}
-use Rattle.sheet.proofs.AcceptedLaws.{has-form, shape-of, sixth-is, hauls-bounded}
+use Rattle.sheet.specs.OnePass.{Told}
+use Rattle.sheet.proofs.HaulLaws.{zero-rows}
+use Rattle.sheet.proofs.ToldLaws.{fails-reading, rule-broken, rule-kept}
 use borrow.Author.Needs.{needs}
 use Rattle.sheet.proofs.read.Statement.{statement}
 use Rattle.sheet.proofs.read.Tie as tie
 
-form-and-amounts-of-requires : tie.Need-form-and-amounts-of-requires
-form-and-amounts-of-requires c κs = search needs
+slice-aggregate-counts-of : tie.Need-slice-aggregate-counts-of
+slice-aggregate-counts-of c = search needs
+
+counts-of-requires : tie.Need-counts-of-requires
+counts-of-requires c κs = zero-rows
 
 enum-known-yards : tie.Need-enum-known-yards
 enum-known-yards c = search needs
 
-are-metric-requires : tie.Need-are-metric-requires
-are-metric-requires c κs = let arm = c .before in
-    let five = amounts-accepted _ (sym (arm .before .before .form-and-amounts-of .ensures) ∙ ap meaning (arm .yards .given .1)) in
-    (shape-of (has-form _ _ _ (five .0)), hauls-bounded _ _ _ (five .0) (five .1))
+slice-aggregate-keeps-rule : tie.Need-slice-aggregate-keeps-rule
+slice-aggregate-keeps-rule c = search needs
+
+keeps-rule-requires : tie.Need-keeps-rule-requires
+keeps-rule-requires c κs = search needs
 
 returns : tie.Need-returns
-returns c = let arm = c .before .before .before in
-    let five = amounts-accepted _ (sym (arm .before .before .form-and-amounts-of .ensures) ∙ ap meaning (arm .yards .given .1)) in
-    sym (reading-6 _ (five .0) (five .1) (said-no (c .before .are-metric .ensures ∙ sixth-is (has-form _ _ _ (five .0))) (c .if1 .taken)))
+returns c = let asked = c .before in
+    let arm = asked .before .before .before in
+    let counted = arm .before .before .before in
+    let told = subst (λ r. Told (counted .before .before .before .args .sheet .now) r (counted .counts-of .last .1 .0)) (arm .yards .given .1) (counted .counts-of .ensures) in
+    sym (rule-broken _ _ _ _ told (said-no (asked .keeps-rule .ensures) (c .if1 .taken)))
 
-enum-known-k : tie.Need-enum-known-k
-enum-known-k c = search needs
+enum-told : tie.Need-enum-told
+enum-told c = search needs
+
+form-and-amounts-of-requires : tie.Need-form-and-amounts-of-requires
+form-and-amounts-of-requires c κs = search needs
 
 returns-2 : tie.Need-returns-2
-returns-2 c = let arm = c .before .before .before in
-    let five = amounts-accepted _ (sym (arm .before .before .form-and-amounts-of .ensures) ∙ ap meaning (arm .yards .given .1)) in
-    sym (reading-yes _ (five .0) (five .1) (said-yes (c .before .are-metric .ensures ∙ sixth-is (has-form _ _ _ (five .0))) (c .if1 .left)))
+returns-2 c = let asked = c .before in
+    let arm = asked .before .before .before in
+    let counted = arm .before .before .before in
+    let told = subst (λ r. Told (counted .before .before .before .args .sheet .now) r (counted .counts-of .last .1 .0)) (arm .yards .given .1) (counted .counts-of .ensures) in
+    sym (rule-kept _ _ _ _ told (said-yes (asked .keeps-rule .ensures) (c .if1 .left)))
 
 returns-3 : tie.Need-returns-3
 returns-3 c = let arm = c .before in
-    sym (amounts-refused _ _ (sym (arm .before .before .form-and-amounts-of .ensures) ∙ ap meaning (arm .k .given .1)))
+    let counted = arm .before .before .before in
+    let told = subst (λ r. Told (counted .before .before .before .args .sheet .now) r (counted .counts-of .last .1 .0)) (arm .enum-told .given .1) (counted .counts-of .ensures) in
+    c .form-and-amounts-of .ensures ∙ fails-reading _ told
 
 pub read-spec : {M : Type 1} → statement M
 read-spec =
     tie.close
     (tie.spec
-    form-and-amounts-of-requires
+    slice-aggregate-counts-of
+    counts-of-requires
     enum-known-yards
-    are-metric-requires
+    slice-aggregate-keeps-rule
+    keeps-rule-requires
     returns
-    enum-known-k
+    enum-told
+    form-and-amounts-of-requires
     returns-2
     returns-3)

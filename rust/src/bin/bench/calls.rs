@@ -37,6 +37,10 @@ impl Call {
         }
     }
 
+    pub fn searches(self) -> bool {
+        matches!(self, Call::Plan(PlanCall::OpenPlan | PlanCall::LimitedPlan { .. }))
+    }
+
     pub fn put_to(self, calls: &Calls, sheet: &[u8], area: &mut [u8]) -> Outcome {
         match self {
             Call::Read => Outcome::Counts((calls.read)(sheet)),
@@ -45,7 +49,7 @@ impl Call {
     }
 }
 
-/// The three implementations must give the same outcome and area: all refuse the call by this number or, without one,
+/// The implementations must give the same outcome and area: all refuse the call by this number or, without one,
 /// all accept it.
 pub fn compare(call: Call, inputs: &[Sample], refused: Option<u8>) -> Result<(), String> {
     for input in inputs {

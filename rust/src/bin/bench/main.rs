@@ -1,5 +1,5 @@
 //! How long each call takes: the proved library (ours), document 01 to the letter (literal), and plain Rust made for speed
-//! (fast). Before a call is timed, the three must give the same answers and the same areas.
+//! (fast), its sums of 64 bits as the library's are, or of 32. Before a call is timed, all must give the same answers and the same areas.
 mod calls;
 mod inputs;
 mod printing;
@@ -28,7 +28,8 @@ fn bench() -> Result<(), String> {
     println!("{SHEETS} sheets of {MOST_YARDS} yards and {MOST_FARMS} farms in a square of side {SPAN}, fees up to {FEES:?} in turn.");
     println!("Microseconds of whole calls, made on one sheet after the other: mean over the sheets; of a sheet the median of");
     println!("{PASSES} passes, {LONG_PASSES} of literal and of four loops. Ratios: of the means (lowest to highest of a sheet).");
-    println!("Ours: the proved library. Literal: document 01 to the letter in Rust. Fast: plain Rust made for speed.");
+    println!("Ours: the proved library. Literal: document 01 to the letter in Rust. Fast: plain Rust made for speed, with sums of");
+    println!("64 bits as ours has them; of searches a second line has it with sums of 32.");
     print_heading("Accepted sheets");
     for call in CALLS {
         line(&call.name(), call, &full, None)?;

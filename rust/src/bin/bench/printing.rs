@@ -12,17 +12,23 @@ pub fn print_heading(title: &str) {
     println!("{:<40} {:>9} {:>11} {:>9}   {:<28} ours/fast", "", "ours", "literal", "fast", "ours/literal");
 }
 
-/// The times of a call of the three implementations on each sheet in turn.
+/// The times of a call of the implementations on each sheet in turn. Of a search a second line has the fast program with sums of
+/// 32 bits.
 pub fn print_call(name: &str, call: Call, inputs: &[Sample]) {
-    let [ours, literal, fast] = ALL.each_ref().map(|calls: &Calls| {
+    let [ours, literal, fast, fast_32] = ALL.each_ref().map(|calls: &Calls| {
         move |at: usize, area: &mut [u8]| {
             black_box(call.put_to(calls, black_box(&inputs[at].sheet), area));
         }
     });
-    let times = time([(&ours as OnSheet, PASSES), (&literal, LONG_PASSES), (&fast, PASSES)], inputs.len());
-    let [ours, literal, fast] = [0, 1, 2].map(|of| mean(&times, of));
+    let calls: [(OnSheet, usize); 4] = [(&ours, PASSES), (&literal, LONG_PASSES), (&fast, PASSES), (&fast_32, PASSES)];
+    let times = time(calls, inputs.len());
+    let [ours, literal, fast, fast_32] = [0, 1, 2, 3].map(|of| mean(&times, of));
     let (by_literal, by_fast) = (ratios(&times, 0, 1, 4), ratios(&times, 0, 2, 2));
     println!("{name:<40} {ours:>9.2} {literal:>11.2} {fast:>9.2}   {by_literal:<28} {by_fast}");
+    if call.searches() {
+        let by_fast_32 = ratios(&times, 0, 3, 2);
+        println!("{:<40} {:>9} {:>11} {fast_32:>9.2}   {:<28} {by_fast_32}", "  sums of 32 bits", "", "", "");
+    }
 }
 
 /// Paper 4 of document 02: question 6 alone by four loops in plain Rust, on a table already read, against our whole reading.

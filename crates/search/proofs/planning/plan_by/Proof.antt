@@ -1,13 +1,42 @@
--- `planning::plan_by` meets its contract: its tables are large enough, and blank; what is written is the plan of where the search ends.
-use Rattle.price.proofs.PricingLaws.{as-outcome}
+-- `planning::plan_by` meets its contract: the tables hold the sheet's amounts, so what is written is the plan of where the search of the
+-- sheet's instance ends.
 use mathlib.Core.Path.{ap}
+use Prim.Native.Nat.{ℕ}
+use native.Mathlib.Omega.{arith}
+use lib.ListN.{getD-replicate}
+use borrow.Author.Needs.{needs}
 use Rattle.sheet.specs.Answers.{accepted}
 use Rattle.sheet.specs.Sheet.{instanceBy}
+use Rattle.sheet.proofs.AcceptedLaws.{accepts, shape-of}
+use Rattle.price.proofs.PricingLaws.{as-outcome}
+use Rattle.engine.proofs.TableLaws.{few-entries}
 use Rattle.search.specs.Settling.{planOf}
-use Rattle.search.proofs.TableLaws.{blank}
-use borrow.Author.Needs.{needs}
+use Rattle.search.proofs.TableLaws.{tables-good}
+use Rattle.search.proofs.PreparingLaws.{reached}
+use Rattle.search.proofs.PlanningLaws.{end-small}
 use Rattle.search.proofs.planning.plan_by.Statement.{statement}
 use Rattle.search.proofs.planning.plan_by.Tie as tie
+
+slice-aggregate-fill-opening : tie.Need-slice-aggregate-fill-opening
+slice-aggregate-fill-opening c = search needs
+
+fill-opening-requires : tie.Need-fill-opening-requires
+fill-opening-requires c κs = let s = c .before .before .before in
+    let form = accepts _ _ _ (s .pre .0) .has in
+    (shape-of form, omega (arith, form .few-yards), λ i l. getD-replicate {A = ℕ} 32 i 0 0 (omega (arith, form .few-yards)))
+
+mul-fill : tie.Need-mul-fill
+mul-fill c = let s = c .before .before .before .before .before in
+    let form = accepts _ _ _ (s .pre .0) .has in
+    omega (arith, few-entries (s .args .m) (s .args .n) (form .few-yards) (form .few-farms))
+
+slice-aggregate-fill : tie.Need-slice-aggregate-fill
+slice-aggregate-fill c = search needs
+
+fill-requires : tie.Need-fill-requires
+fill-requires c κs = let s = c .before .before .before .before .before .before in
+    let form = accepts _ _ _ (s .pre .0) .has in
+    (omega (arith, shape-of form .room), omega (arith, few-entries (s .args .m) (s .args .n) (form .few-yards) (form .few-farms)))
 
 slice-aggregate-search-on : tie.Need-slice-aggregate-search-on
 slice-aggregate-search-on c = search needs
@@ -15,38 +44,47 @@ slice-aggregate-search-on c = search needs
 slice-aggregate-search-on-2 : tie.Need-slice-aggregate-search-on-2
 slice-aggregate-search-on-2 c = search needs
 
-slice-aggregate-search-on-3 : tie.Need-slice-aggregate-search-on-3
-slice-aggregate-search-on-3 c = search needs
-
 search-on-requires : tie.Need-search-on-requires
-search-on-requires c κs = let start = c .before .before .before .before .before in
-    let shape = start .pre .0 in
-    (shape, start .pre .1, start .pre .2, start .pre .3, blank _ _ (shape .few-yards) (shape .few-farms))
-
-slice-aggregate-write : tie.Need-slice-aggregate-write
-slice-aggregate-write c = search needs
+search-on-requires c κs = let s = c .before .before .before .before .before .before .before .before .before .before in
+    let all = accepts _ _ _ (s .pre .0) in (
+      tables-good (s .args .sheet .now) (s .args .m) (s .args .n) all (s .args .neighbourhood) _ _ (omega (arith, all .has .few-yards))
+          (omega (arith, few-entries (s .args .m) (s .args .n) (all .has .few-yards) (all .has .few-farms)))
+          (c .before .before .before .before .before .before .fill-opening .ensures) (c .before .before .before .fill .ensures),
+      s .pre .1,
+      s .pre .2,
+    )
 
 write-requires : tie.Need-write-requires
-write-requires c κs = search needs
+write-requires c κs = let s = c .before .before .before .before .before .before .before .before .before .before .before .before in
+    let a = s .args in
+    let small = end-small (a .sheet .now) (a .m) (a .n) _ (s .pre .0) (a .neighbourhood) (a .k)
+    (reached (a .sheet .now) (a .m) (a .n) (a .k) _ _ (c .before .before .before .before .before .fill .ensures) (c .before .search-on .result) (a .neighbourhood) (c .before .before .before .before .before .before .before .before .fill-opening .ensures)
+    (c .before .search-on .ensures)) in
+    (shape-of (accepts _ _ _ (s .pre .0) .has), s .pre .3, small .0, small .1)
 
 same-length : tie.Need-same-length
 same-length c = search needs
 
 returns : tie.Need-returns
-returns c = let searched = c .before .before .before .before .before .before .before .before in
-    let a = searched .before .before .before .before .before .before .args in
-    as-outcome (ap (λ e. accepted (planOf (instanceBy (a .sheet .now) (a .m) (a .n)) e)) (searched .search-on .ensures .0))
+returns c = let s = c .before .before .before .before .before .before .before .before .before .before .before .before .before .before .before in
+    let a = s .args in
+    as-outcome (ap (λ e. accepted (planOf (instanceBy (a .sheet .now) (a .m) (a .n)) e))
+    (reached (a .sheet .now) (a .m) (a .n) (a .k) _ _ (c .before .before .before .before .before .before .before .before .fill .ensures) (c .before .before .before .before .search-on .result) (a .neighbourhood) (c .before .before .before .before .before .before .before .before .before .before .before .fill-opening .ensures)
+    (c .before .before .before .before .search-on .ensures)))
     (c .before .before .write .result) _ _ (c .before .before .write .ensures)
 
 pub plan-by-spec : {M : Type 1} → statement M
 plan-by-spec =
     tie.close
     (tie.spec
+    slice-aggregate-fill-opening
+    fill-opening-requires
+    mul-fill
+    slice-aggregate-fill
+    fill-requires
     slice-aggregate-search-on
     slice-aggregate-search-on-2
-    slice-aggregate-search-on-3
     search-on-requires
-    slice-aggregate-write
     write-requires
     same-length
     returns)

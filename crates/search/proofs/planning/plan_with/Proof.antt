@@ -2,7 +2,7 @@
 use mathlib.Core.Path.{sym, ap, _∙_}
 use Rattle.model.proofs.Bools.{said-no, said-yes}
 use Rattle.sheet.specs.Reading.{meaning}
-use Rattle.sheet.proofs.AcceptedLaws.{accepts, shape-of}
+use Rattle.sheet.proofs.AcceptedLaws.{accepts}
 use Rattle.price.proofs.PlanLaws.{fits-within}
 use Rattle.price.proofs.PricingLaws.{refuses, as-outcome}
 use Rattle.search.proofs.PlanningLaws.{too-few, too-many, k-good, unread, bad-k, no-room, planned}
@@ -42,12 +42,11 @@ plan-by-requires c κs = let passed = c .before in
     let low = passed .before .before in
     let arm = low .before .before .before in
     let e = sym (arm .before .before .read .ensures) ∙ ap meaning (arm .yards .given .1) in
-    let all = accepts _ _ _ e in (
-      shape-of (all .has),
-      record { fees = all .fees; hauls = all .hauls-within },
+    let form = accepts _ _ _ e .has in (
+      e,
       low .before .if1 .left,
       low .if2 .left,
-      said-yes (passed .before .plan-fits .ensures ∙ fits-within _ _ _ (all .has .few-yards) (all .has .few-farms)) (passed .if3 .left),
+      said-yes (passed .before .plan-fits .ensures ∙ fits-within _ _ _ (form .few-yards) (form .few-farms)) (passed .if3 .left),
     )
 
 enum-known-number : tie.Need-enum-known-number

@@ -1,55 +1,55 @@
--- `planning::search_on` meets its contract: the tables hold the sheet's amounts, so the search on them is that of the sheet's instance.
-use Rattle.search.proofs.ClientLaws.{none-begun}
-use Rattle.search.proofs.PreparingLaws.{start-good, reached, knows}
+-- `planning::search_on` meets its contract: the engine takes the tables and the start, and settles.
+use native.Mathlib.Omega.{arith}
 use borrow.Author.Needs.{needs}
+use Rattle.engine.proofs.TableLaws.{good-when}
+use Rattle.search.proofs.PreparingLaws.{settles, never-stopped, never-refused}
 use Rattle.search.proofs.planning.search_on.Statement.{statement}
 use Rattle.search.proofs.planning.search_on.Tie as tie
 
-fill-opening-requires : tie.Need-fill-opening-requires
-fill-opening-requires c κs = search needs
-
-prepare-requires : tie.Need-prepare-requires
-prepare-requires c κs = search needs
-
 start-of-requires : tie.Need-start-of-requires
-start-of-requires c κs = search needs
+start-of-requires c κs = let s = c .before .before in
+    let a = s .args in
+    omega (arith, s .pre .2, good-when (a .m) (a .n) (a .opening .now) (a .service .now) (s .pre .0) .few-facilities)
 
-settle-requires : tie.Need-settle-requires
-settle-requires c κs = let begun = c .before .before .before in
-    let p = begun .before .before .before .before .before .before .before .before .prepare .ensures in
-    let filled = begun .before .before .before .before .before .before .before .before .before .before .before .before .before .fill-opening .ensures in
-    let start = begun .before .before .before .before .before .before .before .before .before .before .before .before .before .before .before .before .before .before .before in
-    let good = start-good (start .args .moves) _ _ _ _ _ _ (start .pre .2) (start .pre .3) (begun .start-of .ensures) in
-    (p .sums, none-begun _ _ _ _ _ (p .waiting), filled .1, good .0, good .1)
+search-requires : tie.Need-search-requires
+search-requires c κs = search needs
 
-same-length : tie.Need-same-length
-same-length c = search needs
+enum-known-set : tie.Need-enum-known-set
+enum-known-set c = search needs
 
-same-length-2 : tie.Need-same-length-2
-same-length-2 c = search needs
+enum-known-set-2 : tie.Need-enum-known-set-2
+enum-known-set-2 c = search needs
 
-same-length-3 : tie.Need-same-length-3
-same-length-3 c = search needs
+enum-told : tie.Need-enum-told
+enum-told c = search needs
 
 returns : tie.Need-returns
-returns c = let settled = c .before .before .settle .ensures in
-    let begun = c .before .before .before .before .before .before in
-    let p = begun .before .before .before .before .before .before .before .before .prepare .ensures in
-    let filled = begun .before .before .before .before .before .before .before .before .before .before .before .before .before .fill-opening .ensures in
-    let start = begun .before .before .before .before .before .before .before .before .before .before .before .before .before .before .before .before .before .before .before in (
-      reached _ _ _ _ _ _ (p .hauls) _ _ (start .args .moves) (filled .0) (begun .start-of .ensures) (settled .0),
-      (settled .1 .0, knows _ _ _ _ _ _ (p .hauls) (settled .1 .1)),
-    )
+returns c = let s = c .before .before .before .before .before .before .before in
+    let a = s .args in
+    let start = c .before .before .before .before .start-of in
+    settles (a .neighbourhood) (a .m) (a .n) (a .k) (a .opening .now) (a .service .now) (s .pre .0) (s .pre .1) (s .pre .2) _ (start .ensures) _ (c .before .before .before .search .ensures) _ _ _ (c .before .set .given .1)
+
+returns-2 : tie.Need-returns-2
+returns-2 c = let s = c .before .before .before .before .before .before .before in
+    let a = s .args in
+    let start = c .before .before .before .before .start-of in
+    absurd (never-stopped (a .neighbourhood) (a .m) (a .n) (a .k) (a .opening .now) (a .service .now) (s .pre .0) (s .pre .1) (s .pre .2) _ (start .ensures) _ (c .before .before .before .search .ensures) _ _ _ (c .before .set2 .given .1))
+
+returns-3 : tie.Need-returns-3
+returns-3 c = let s = c .before .before .before .before .before .before in
+    let a = s .args in
+    let start = c .before .before .before .start-of in
+    absurd (never-refused (a .neighbourhood) (a .m) (a .n) (a .k) (a .opening .now) (a .service .now) (s .pre .0) (s .pre .1) (s .pre .2) _ (start .ensures) _ (c .before .before .search .ensures) (c .enum-told .given .1))
 
 pub search-on-spec : {M : Type 1} → statement M
 search-on-spec =
     tie.close
     (tie.spec
-    fill-opening-requires
-    prepare-requires
     start-of-requires
-    settle-requires
-    same-length
-    same-length-2
-    same-length-3
-    returns)
+    search-requires
+    enum-known-set
+    enum-known-set-2
+    enum-told
+    returns
+    returns-2
+    returns-3)

@@ -1,26 +1,125 @@
--- `one_pass::good_farm` meets its contract: a yes is given only after the three tests.
-use borrow.Author.Tests.{ltb-true, le-ltb, ne-eqb}
+-- `one_pass::good_farm` meets its contract. The invariant: every record passed is the haul of its place, and stands in the table.
+use mathlib.Core.Path.{_≡_, refl, sym}
+use mathlib.Core.Bool.{true}
+use Prim.Native.Nat.{_≤_, _-_}
 use native.Mathlib.Omega.{arith}
-use Rattle.model.proofs.Bools.{clash}
-use borrow.Author.Needs.{needs}
+use borrow.Author.Tests.{not-false}
+use lib.ListN.{length, length-set}
+use Rattle.model.specs.Loops.{allBelow}
+use Rattle.model.proofs.Bools.{clash, said-no, said-yes}
+use Rattle.model.proofs.LoopLaws.{all-none, all-more, all-stops}
+use Rattle.sheet.specs.Hauls.{Filled}
+use Rattle.sheet.specs.OnePass.{goodHaul, goodFarm}
+use Rattle.sheet.proofs.HaulLaws.{filled-more, filled-farm}
+use Rattle.sheet.proofs.OnePassLaws.{haul-tested, haul-read, haul-low}
 use Rattle.sheet.proofs.one_pass.good_farm.Statement.{statement}
 use Rattle.sheet.proofs.one_pass.good_farm.Tie as tie
 
-rests-of-requires : tie.Need-rests-of-requires
-rests-of-requires c κs = search needs
+abbrev Inv-loop : tie.InvT-loop
+Inv-loop sheet m p table₀ a₀ table a = (a ≤ m) × (length table ≡ length table₀) × (true ≡ allBelow a (goodHaul sheet m p)) × Filled sheet m p a table
 
-returns : tie.Need-returns
-returns c = λ yes. c .before .before .before .before .before .rests-of .ensures (record {
-  heads-gone = omega arith;
-  plain-below = omega arith;
-  raised-below = omega (arith, ltb-true);
-})
+abbrev μ-loop : tie.MeasureT-loop
+μ-loop sheet m p table₀ a₀ table a = m - a
 
-returns-2 : tie.Need-returns-2
-returns-2 c = λ yes. clash yes (le-ltb _ _ (c .if2 .left))
+loop-holds : tie.Need-loop-holds Inv-loop μ-loop
+loop-holds c = (omega arith, refl, all-none _, c .before .before .pre .1)
 
-returns-3 : tie.Need-returns-3
-returns-3 c = λ yes. clash yes (ne-eqb _ _ (c .if1 .left))
+mul-within : tie.Need-mul-within Inv-loop μ-loop
+mul-within c = omega arith
+
+add-within : tie.Need-add-within Inv-loop μ-loop
+add-within c = omega arith
+
+add-within-2 : tie.Need-add-within-2 Inv-loop μ-loop
+add-within-2 c = omega arith
+
+within-requires : tie.Need-within-requires Inv-loop μ-loop
+within-requires c κs = omega arith
+
+cast-is : tie.Need-cast-is Inv-loop μ-loop
+cast-is c = omega arith
+
+cast-is-2 : tie.Need-cast-is-2 Inv-loop μ-loop
+cast-is-2 c = omega arith
+
+is-requires : tie.Need-is-requires Inv-loop μ-loop
+is-requires c κs = omega arith
+
+same-length : tie.Need-same-length Inv-loop μ-loop
+same-length c = c .before .before .before .before .loop .inv .1
+
+returns : tie.Need-returns Inv-loop μ-loop
+unfolding goodFarm
+returns c = let asked = c .before in
+    let turn = asked .before .before .before in
+    let s = turn .before .before .before .args in (
+      sym (all-stops _ _ (turn .loop .a) (omega arith)
+          (said-no (haul-tested (s .sheet .now) (s .m) (s .p) (turn .loop .a) _ _ (asked .before .within .ensures) (asked .is .ensures)) (c .if1 .taken))),
+      λ yes. clash yes refl,
+    )
+
+mul-table : tie.Need-mul-table Inv-loop μ-loop
+mul-table c = omega arith
+
+add-table : tie.Need-add-table Inv-loop μ-loop
+add-table c = omega arith
+
+mul-table-2 : tie.Need-mul-table-2 Inv-loop μ-loop
+mul-table-2 c = omega arith
+
+slice-write-table : tie.Need-slice-write-table Inv-loop μ-loop
+slice-write-table c = omega arith
+
+add-a : tie.Need-add-a Inv-loop μ-loop
+add-a c = omega arith
+
+loop-less : tie.Need-loop-less Inv-loop μ-loop
+loop-less c = omega arith
+
+loop-again : tie.Need-loop-again Inv-loop μ-loop
+loop-again c = let asked = c .before in
+    let turn = asked .before .before .before in
+    let s = turn .before .before .before .args in
+    let read = asked .before .within .ensures in
+    let test = asked .is .ensures in (
+      omega arith,
+      simp length-set (turn .loop .inv .1),
+      all-more _ _ (turn .loop .inv .2) (said-yes (haul-tested (s .sheet .now) (s .m) (s .p) (turn .loop .a) _ _ read test) (c .if1 .left)),
+      filled-more (s .sheet .now) (s .m) (s .p) (turn .loop .a) _ _ (turn .loop .table) refl (omega arith) (omega arith)
+          (haul-read (s .sheet .now) (s .m) (s .p) (turn .loop .a) _ _ read test)
+          (haul-low (s .sheet .now) (s .m) (s .p) (turn .loop .a) _ _ read test (not-false _ (c .if1 .left))) (turn .loop .inv .3),
+    )
+
+same-length-2 : tie.Need-same-length-2 Inv-loop μ-loop
+same-length-2 c = c .before .loop .inv .1
+
+returns-2 : tie.Need-returns-2 Inv-loop μ-loop
+unfolding goodFarm
+returns-2 c = let e : c .before .loop .a ≡ c .before .before .before .before .args .m = omega arith in
+    (rw e at (c .before .loop .inv .2), λ yes. filled-farm _ _ _ _ (rw e at (c .before .loop .inv .3)))
 
 pub good-farm-spec : {M : Type 1} → statement M
-good-farm-spec = tie.close (tie.spec rests-of-requires returns returns-2 returns-3)
+good-farm-spec =
+    tie.close
+    (tie.spec
+    Inv-loop
+    μ-loop
+    loop-holds
+    mul-within
+    add-within
+    add-within-2
+    within-requires
+    cast-is
+    cast-is-2
+    is-requires
+    same-length
+    returns
+    mul-table
+    add-table
+    mul-table-2
+    slice-write-table
+    add-a
+    loop-less
+    loop-again
+    same-length-2
+    returns-2)

@@ -1,26 +1,43 @@
--- `Record::is` meets its contract: a head is told by its number.
-use mathlib.Core.Path.{sym, _∙_}
-use borrow.Author.Tests.{ne-eqb}
-use native.Mathlib.Omega.{arith}
-use Rattle.sheet.proofs.OnePassLaws.{same-head, other-head}
+-- `Record::is` meets its contract: each `return` is a test of `recordIs`.
+use borrow.Author.Tests.{eq-eqb, ne-eqb}
+use Rattle.model.proofs.Bools.{said-no, said-yes}
+use Rattle.sheet.specs.OnePass.{recordIs}
 use borrow.Author.Needs.{needs}
 use Rattle.sheet.proofs.record.Record.is.Statement.{statement}
 use Rattle.sheet.proofs.record.Record.is.Tie as tie
 
-word32-requires : tie.Need-word32-requires
-word32-requires c κs = search needs
-
-word32-requires-2 : tie.Need-word32-requires-2
-word32-requires-2 c κs = search needs
+well-formed-requires : tie.Need-well-formed-requires
+well-formed-requires c κs = search needs
 
 returns : tie.Need-returns
-returns c = let s = c .before .before .before .before in
-    sym (same-head (s .args .self) _ _ _ _ (c .before .before .before .word32 .ensures) (c .before .before .word322 .ensures)
-    (c .before .if1 .taken) (omega arith) (omega arith) (omega arith) (omega arith) (omega arith) (omega arith))
+unfolding recordIs
+returns c = rw (said-no (c .before .well-formed .ensures) (c .if1 .taken))
 
 returns-2 : tie.Need-returns-2
-returns-2 c = ne-eqb _ _ (c .if1 .left)
-    ∙ sym (other-head (c .before .before .before .args .self) _ _ _ _ (c .before .before .word32 .ensures) (c .before .word322 .ensures) (c .if1 .left))
+unfolding recordIs
+returns-2 c = let farm = c .before in
+    let yard = farm .before .before in
+    let kind = yard .before .before in
+    let formed = kind .before .before in
+    rw (said-yes (formed .before .well-formed .ensures) (formed .if1 .left), eq-eqb _ _ (kind .if2 .taken), eq-eqb _ _ (yard .if3 .taken), eq-eqb _ _ (farm .if4 .taken))
+
+returns-3 : tie.Need-returns-3
+unfolding recordIs
+returns-3 c = let yard = c .before .before in
+    let kind = yard .before .before in
+    let formed = kind .before .before in
+    rw (said-yes (formed .before .well-formed .ensures) (formed .if1 .left), eq-eqb _ _ (kind .if2 .taken), eq-eqb _ _ (yard .if3 .taken), ne-eqb _ _ (c .if4 .left))
+
+returns-4 : tie.Need-returns-4
+unfolding recordIs
+returns-4 c = let kind = c .before .before in
+    let formed = kind .before .before in
+    rw (said-yes (formed .before .well-formed .ensures) (formed .if1 .left), eq-eqb _ _ (kind .if2 .taken), ne-eqb _ _ (c .if3 .left))
+
+returns-5 : tie.Need-returns-5
+unfolding recordIs
+returns-5 c = let formed = c .before .before in
+    rw (said-yes (formed .before .well-formed .ensures) (formed .if1 .left), ne-eqb _ _ (c .if2 .left))
 
 pub is-spec : {M : Type 1} → statement M
-is-spec = tie.close (tie.spec word32-requires word32-requires-2 returns returns-2)
+is-spec = tie.close (tie.spec well-formed-requires returns returns-2 returns-3 returns-4 returns-5)

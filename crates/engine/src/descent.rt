@@ -1,0 +1,152 @@
+// The search: from a start, the best move while it lowers the cost and a move is left.
+ghost use mathlib.Core.Path.{_≡_};
+ghost use mathlib.Core.Bool.{true};
+ghost use Prim.Native.Nat.{_+_, _^_, _≤_, _<_};
+ghost use lib.ListN.{length, getD};
+ghost use Rattle.model.specs.Least.{any};
+ghost use Rattle.model.specs.Sets.{member};
+ghost use Rattle.model.specs.Search.{next};
+ghost use Rattle.model.specs.Limit.{searchWithin};
+ghost use Rattle.model.specs.Plans.{openStart};
+ghost use Rattle.engine.specs.Bounds.{wordEnd, addedFrom, keptLength};
+ghost use Rattle.engine.specs.Tables.{tabled, tableCost, Openings};
+ghost use Rattle.engine.specs.Rows.{Rows, ColumnSums};
+ghost use Rattle.engine.specs.Sums.{Kept, Standing, NearUpTo};
+ghost use Rattle.engine.specs.Moves.{priced, neighboursBy};
+ghost use Rattle.engine.specs.Search.{startSet, found};
+use crate::Found;
+use crate::Neighbourhood;
+use crate::Start;
+use crate::bounds::ADDED;
+use crate::bounds::MOST_FACILITIES;
+use crate::clients::begin;
+use crate::clients::move_to;
+use crate::cost::add_up;
+use crate::cost::nearest_costs;
+use crate::cost::openings_of;
+use crate::moves::Priced;
+use crate::moves::best_move;
+use crate::moves::better_of;
+
+// What a facility costs alone, where it serves every client.
+fn alone_cost(opening: &[u64], kept: &[u64], i: usize) -> u64
+    requires { ⌜ (i < length (now opening)) × (addedFrom + i < length (now kept)) × (getD (now opening) i 0 + getD (now kept) (addedFrom + i) 0 < wordEnd) ⌝ }
+    ensures { λ r. ⌜ r ≡ getD (now (opening .entry)) i 0 + getD (now (kept .entry)) (addedFrom + i) 0 ⌝ }
+{
+    opening[i] + kept[ADDED + i]
+}
+
+// The single facility of least cost, the lowest number among equals, by the sums of the columns.
+fn cheapest(opening: &[u64], service: &[u32], m: usize, n: usize, kept: &[u64]) -> Priced
+    requires { ⌜ Rows m n (now service) × Openings m (now opening) × (1 ≤ m) × (keptLength ≤ length (now kept)) × ColumnSums m n (now service) (now kept) ⌝ }
+    ensures { λ r. ⌜ r ≡ priced (tableCost m n (now (opening .entry)) (now (service .entry))) (openStart (tabled m n (now (opening .entry)) (now (service .entry)))) ⌝ }
+{
+    let mut b = Priced {
+        set: 1,
+        cost: alone_cost(opening, kept, 0),
+    };
+    let mut i = 1;
+    while i < m {
+        b = better_of(sets::added(0, i), alone_cost(opening, kept, i), b);
+        i += 1;
+    }
+    b
+}
+
+// The set that a search begins at.
+pub(crate) fn first_set(
+    start: Start,
+    opening: &[u64],
+    service: &[u32],
+    m: usize,
+    n: usize,
+    kept: &[u64],
+) -> u32
+    requires { ⌜ Rows m n (now service) × Openings m (now opening) × (1 ≤ m) × (keptLength ≤ length (now kept)) × ColumnSums m n (now service) (now kept) ⌝ }
+    ensures { λ r. ⌜ r ≡ startSet start (tabled m n (now (opening .entry)) (now (service .entry))) ⌝ }
+{
+    match start {
+        Start::Cheapest => {
+            let alone = cheapest(opening, service, m, n, kept);
+            alone.set
+        }
+        Start::Set(set) => set,
+    }
+}
+
+// What the set costs that the kept table is that of.
+fn cost_now(opening: &[u64], service: &[u32], m: usize, n: usize, set: u32, kept: &[u64]) -> u64
+    requires { ⌜ Standing m n (now service) set (now kept) × Openings m (now opening) ⌝ }
+    ensures { λ r. ⌜ r ≡ tableCost m n (now (opening .entry)) (now (service .entry)) set ⌝ }
+{
+    let members = sets::members_of(set);
+    let list = members.list;
+    let fees = openings_of(opening, &list, members.count);
+    fees + nearest_costs(kept, n)
+}
+
+// The set after the best move, or the set itself where no move lowers the cost.
+fn choose(
+    neighbourhood: Neighbourhood,
+    opening: &[u64],
+    service: &[u32],
+    m: usize,
+    n: usize,
+    b: Priced,
+    kept: &[u64],
+) -> Priced
+    requires { ⌜ Standing m n (now service) (b .set) (now kept) × Openings m (now opening) × (b ≡ priced (tableCost m n (now opening) (now service)) (b .set)) ⌝ }
+    ensures { λ r. ⌜ r ≡ priced (tableCost m n (now (opening .entry)) (now (service .entry))) (next (tableCost m n (now (opening .entry)) (now (service .entry))) (neighboursBy neighbourhood m) (b .set)) ⌝ }
+{
+    let members = sets::members_of(b.set);
+    let list = members.list;
+    let count = members.count;
+    let mut costs = [0u64; MOST_FACILITIES];
+    let fees = openings_of(opening, &list, count);
+    add_up(fees, opening, kept, &mut costs);
+    best_move(neighbourhood, opening, m, b, &costs, kept, &list, count)
+}
+
+// The search from a set with at most so many moves, by the table that is lent: nothing is counted in it yet.
+pub(crate) fn descend(
+    neighbourhood: Neighbourhood,
+    start: u32,
+    limit: u64,
+    opening: &[u64],
+    service: &[u32],
+    m: usize,
+    n: usize,
+    kept: &mut [u64],
+) -> Found
+    requires { ⌜ Kept m n (now service) (now kept) × NearUpTo m n (now service) (now kept) start 0 × Openings m (now opening) × (start < 2 ^ m) × (any m (member start) ≡ true) ⌝ }
+    ensures { λ r. ⌜ r ≡ found (tableCost m n (now (opening .entry)) (now (service .entry))) (searchWithin (tableCost m n (now (opening .entry)) (now (service .entry))) (neighboursBy neighbourhood m) limit start) ⌝ }
+{
+    begin(service, m, n, start, kept);
+    let mut b = Priced {
+        set: start,
+        cost: cost_now(opening, service, m, n, start, kept),
+    };
+    let mut made: u64 = 0;
+    loop {
+        let next = choose(neighbourhood, opening, service, m, n, b, kept);
+        let cost = b.cost;
+        let lowest = next.cost;
+        if cost <= lowest {
+            break Found::Settled {
+                set: b.set,
+                cost,
+                moves: made,
+            };
+        }
+        if limit <= made {
+            break Found::Stopped {
+                set: b.set,
+                cost,
+                moves: made,
+            };
+        }
+        move_to(service, m, n, b.set, next.set, kept);
+        b = next;
+        made += 1;
+    }
+}

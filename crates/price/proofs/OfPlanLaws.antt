@@ -1,0 +1,105 @@
+-- What is promised of the set in the area: it follows from what holds of the plan's own set, and that follows from it; and pricing
+-- keeps the set given.
+use Prim.Native.Nat.{ℕ, _^_, _≤_, _<_}
+use mathlib.Core.Path.{_≡_, refl, sym, ap, ap₂, subst, _∙_}
+use mathlib.Core.List.{List}
+use borrow.Author.Tests.{ltb-true}
+use lib.ListN.{length}
+use lib.Dec.{leb}
+use Rattle.model.specs.Sets.{member}
+use Rattle.model.specs.Instance.{Instance, totalCost}
+use Rattle.model.proofs.Bools.{and-right}
+use Rattle.sheet.specs.Records.{splice}
+use Rattle.sheet.specs.Answers.{Answer, accepted}
+use Rattle.sheet.specs.Sheet.{yards, instanceOf, instanceBy}
+use Rattle.sheet.specs.Reading.{reading}
+use Rattle.sheet.proofs.ReadingLaws.{same-result, apart, asked, read-first}
+use Rattle.sheet.proofs.AcceptedLaws.{accepts, door}
+use Rattle.price.specs.Plan.{planBytes, question9, planSet}
+use Rattle.price.specs.Pricing.{Result, Plan, plan, meaning, answer, areaAfter, OfPlan, question8, pricing, SetKept}
+use Rattle.price.specs.declared.Planned.{Planned}
+use Rattle.price.specs.declared.Planned.the-variants.{Written, Refused}
+use Rattle.price.proofs.PricingLaws.{answered}
+use Rattle.price.proofs.PlanSetLaws.{plan-set}
+
+-- p is the plan of this set of the instance's facilities, which are 32 at most
+pub record PlanOf (set : ℕ) (p : Plan) : Type 0 where
+  pub instance : Instance
+  pub total : ℕ
+  pub moves : ℕ
+  pub is : p ≡ plan instance set total moves
+  pub few : instance .facilities ≤ 32
+  pub small : set < 2 ^ instance .facilities
+
+-- ---- the set in the area, and in the bytes that the call says it wrote
+
+module _ (outcome : Answer Plan) (p : Plan) (set : ℕ) (e : outcome ≡ accepted p) (f : PlanOf set p) (area : List ℕ) where
+  pub set-read-off : planSet (areaAfter outcome area) (length (p .bytes)) ≡ set
+  unfolding areaAfter
+  set-read-off =
+      let bytes = planBytes (f .instance) set (f .total) (f .moves) in
+      let there : areaAfter outcome area ≡ splice area 0 bytes =
+      ap (λ o. areaAfter o area) e ∙ ap (λ (q : Plan). splice area 0 (q .bytes)) (f .is) in
+      ap₂ planSet there (ap (λ (q : Plan). length (q .bytes)) (f .is)) ∙ plan-set (f .instance) set (f .total) (f .moves) area (f .few) (f .small)
+
+-- the call answers as the outcome says
+module _ (outcome : Answer Plan) (r : Planned) (area next : List ℕ)
+    (says : meaning r ≡ answer outcome) (leaves : next ≡ areaAfter outcome area) where
+  -- what holds of the set of every plan that a call can make holds of the set that is read off the area at its exit
+  pub of-plan : (P : ℕ → Type 0) → ((p : Plan) → outcome ≡ accepted p → (set : ℕ) × PlanOf set p × P set) → OfPlan r next P
+  of-plan P made bytes moves e =
+      let a = answered outcome _ (sym (ap meaning e) ∙ says) in
+      let f = made (a .0) (a .1) in
+      let there : planSet next bytes ≡ f .0 =
+      ap₂ planSet leaves (ap (λ (x : Result). x .bytes) (a .2)) ∙ set-read-off outcome (a .0) (f .0) (a .1) (f .1) area in
+      subst P (sym there) (f .2)
+
+  -- and what is promised of an accepted call holds of its plan's own set, whatever moves were made, or none
+  pub promised : (P : ℕ → Type 0) → OfPlan r next P → (p : Plan) → outcome ≡ accepted p → (set : ℕ) → PlanOf set p → P set
+  unfolding answer
+  promised P h p e set f = go r says h
+    where
+      go : (w : Planned) → meaning w ≡ answer outcome → OfPlan w next P → P set
+      go (Written bytes moves) told hold =
+          let long : bytes ≡ length (p .bytes) = ap (λ (x : Result). x .bytes) (same-result (told ∙ ap answer e)) in
+          subst P (ap₂ planSet leaves long ∙ set-read-off outcome p set e f area) (hold bytes moves refl)
+      go (Refused k) told hold = absurd (apart (sym (told ∙ ap answer e)))
+
+-- ---- pricing
+
+facilities-are : (s : List ℕ) → instanceOf s .facilities ≡ yards s
+unfolding instanceOf instanceBy
+facilities-are s = refl
+
+module _ (s : List ℕ) (set room : ℕ) (p : Plan) (h : pricing s set room ≡ accepted p) where
+  -- the plan that pricing makes is that of the set given
+  pub priced-set : PlanOf set p
+  unfolding pricing question8
+  priced-set =
+      let r = read-first (reading s) _ p h in
+      let c = r .0 in
+      let q8 = asked (question8 (c .yards) set) 8 _ p (r .2) in
+      let q9 = asked (question9 (c .yards) (c .farms) room) 9 _ p (q8 .1) in
+      let w = door s (c .yards) (c .farms) (r .1) in
+      let as-many : instanceOf s .facilities ≡ c .yards = facilities-are s ∙ accepts s (c .yards) (c .farms) (r .1) .has .yards-are in
+      record {
+        instance = instanceOf s;
+        total = totalCost (instanceOf s) (member set);
+        moves = 0;
+        is = sym (same-result (q9 .1));
+        few = w .few-facilities;
+        small = rw as-many (ltb-true set (2 ^ c .yards) (and-right (leb 1 set) _ (q8 .0)));
+      }
+
+-- all that pricing promises, from its two equations
+pub pricing-promises : (s : List ℕ) (set : ℕ) (r : Planned) (area next : List ℕ)
+    → (meaning r ≡ answer (pricing s set (length area))) × (next ≡ areaAfter (pricing s set (length area)) area)
+    → (meaning r ≡ answer (pricing s set (length area))) × ((next ≡ areaAfter (pricing s set (length area)) area) × SetKept set r next)
+pricing-promises s set r area next h = (
+  h .0,
+  (
+    h .1,
+    of-plan (pricing s set (length area)) r area next (h .0) (h .1) (λ kept. kept ≡ set)
+        (λ p e. (set, priced-set s set (length area) p e, refl)),
+  ),
+)

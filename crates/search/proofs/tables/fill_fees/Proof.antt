@@ -1,0 +1,73 @@
+-- `tables::fill_fees` meets its contract. The invariant is that of `fill`.
+use mathlib.Core.Path.{_≡_, refl, ap, sym, _∙_}
+use Prim.Native.Nat.{_≤_, _-_}
+use native.Mathlib.Omega.{arith}
+use native.Mathlib.Nat.{zero-add}
+use Rattle.price.specs.Nearest.{amountAt}
+use lib.ListN.{length, length-set}
+use Rattle.search.specs.Tables.{Holds}
+use Rattle.search.proofs.TableLaws.{holds-none, holds-more}
+use Rattle.search.proofs.tables.fill_fees.Statement.{statement}
+use Rattle.search.proofs.tables.fill_fees.Tie as tie
+
+abbrev Inv-loop : tie.InvT-loop
+Inv-loop sheet count table₀ i₀ table i = (i ≤ count) × (length table ≡ length table₀) × Holds sheet 0 i table
+
+abbrev μ-loop : tie.MeasureT-loop
+μ-loop sheet count table₀ i₀ table i = count - i
+
+loop-holds : tie.Need-loop-holds Inv-loop μ-loop
+loop-holds c = let s = c .before .before in
+    (omega arith, refl, holds-none (s .args .sheet .now) 0 (s .args .table .now))
+
+amount-at-requires : tie.Need-amount-at-requires Inv-loop μ-loop
+amount-at-requires c κs = omega arith
+
+cast-table : tie.Need-cast-table Inv-loop μ-loop
+cast-table c = omega arith
+
+mul-table : tie.Need-mul-table Inv-loop μ-loop
+mul-table c = omega arith
+
+slice-write-table : tie.Need-slice-write-table Inv-loop μ-loop
+slice-write-table c = omega arith
+
+add-i : tie.Need-add-i Inv-loop μ-loop
+add-i c = omega arith
+
+loop-less : tie.Need-loop-less Inv-loop μ-loop
+loop-less c = omega arith
+
+loop-again : tie.Need-loop-again Inv-loop μ-loop
+loop-again c = let s = c .before .before .before .before .before in
+    let l = c .before .before .loop in (
+      omega arith,
+      simp length-set (l .inv .1),
+      holds-more (s .args .sheet .now) 0 (l .i) _ (l .table) (omega arith)
+          (c .amount-at .ensures ∙ ap (amountAt (s .args .sheet .now)) (sym (zero-add (l .i)))) (l .inv .2),
+    )
+
+same-length : tie.Need-same-length Inv-loop μ-loop
+same-length c = c .before .loop .inv .1
+
+returns : tie.Need-returns Inv-loop μ-loop
+returns c = let l = c .before .loop in
+    let e : l .i ≡ c .before .before .before .before .args .count = omega arith in
+    rw e at (l .inv .2)
+
+pub fill-fees-spec : {M : Type 1} → statement M
+fill-fees-spec =
+    tie.close
+    (tie.spec
+    Inv-loop
+    μ-loop
+    loop-holds
+    amount-at-requires
+    cast-table
+    mul-table
+    slice-write-table
+    add-i
+    loop-less
+    loop-again
+    same-length
+    returns)
