@@ -13,10 +13,10 @@ use lib.ListN.{length, getD}
 use Rattle.model.specs.Loops.{on}
 use Rattle.model.proofs.Bools.{cases}
 use Rattle.model.proofs.SumLaws.{sum-bound, sum-term, sum-cong, sum-zero, on-zero, on-true, on-le}
+use Rattle.model.proofs.PlaceLaws.{row-within, few-places}
 use Rattle.engine.specs.Bounds.{mostEntry, noFacility, mostServed, secondsFrom, addedFrom, lossFrom, moreFrom, keptLength}
 use Rattle.engine.specs.Rows.{entry, Rows, Shiftable, ColumnSums}
 use Rattle.engine.specs.Sums.{firstAt, secondAt, addedSum, moreSum, lossSum, Kept, Uncounted}
-use Rattle.engine.proofs.TableLaws.{row-within, few-entries}
 
 -- ---- one client's part in each sum, by its two nearest facilities
 
@@ -104,7 +104,7 @@ module _ {m n : ℕ} {service kept : List ℕ} (sums : Kept m n service kept) wh
   module _ (j : ℕ) (client : j < n) where
     pub kept-row-small : j * m ≤ 4096
     kept-row-small =
-        omega (arith, row-within m n j client, few-entries m n (sums .rows .few-facilities) (sums .rows .few-clients))
+        omega (arith, row-within m n j client, few-places m n (sums .rows .few-facilities) (sums .rows .few-clients))
 
     row-room : j * m + 32 ≤ length service
     row-room = omega (arith, row-within m n j client, sums .rows .room)

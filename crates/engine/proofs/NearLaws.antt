@@ -18,13 +18,13 @@ use Rattle.model.proofs.Bools.{clash, fails, or-right, or-left, Eq?, same, diff
 use Rattle.model.proofs.SetLaws.{member-below}
 use Rattle.model.proofs.TwoLeastLaws.{two-none, two-take, two-skip, two-cong, two-ordered, two-below, two-with, first-with, first-attained}
 use Rattle.model.proofs.PackedLaws.{packed-facility, packed-without, packed-first-without, otherThan, packed-second}
+use Rattle.model.proofs.PlaceLaws.{row-within, few-places}
 use Rattle.sets.specs.Members.{membersOf}
 use Rattle.sets.proofs.MemberLaws.{passed, passed-none, passed-more, Next, Last, member-at, none-after, count-few, list-length}
 use Rattle.engine.specs.Bounds.{noFacility}
 use Rattle.engine.specs.Rows.{entry, Rows}
 use Rattle.engine.specs.Near.{nearTwo, twoOf, nearOf, InOrder, Moved, arrivalAt, goesTo}
 use Rattle.engine.specs.declared.near.Near.{Near}
-use Rattle.engine.proofs.TableLaws.{row-within, few-entries}
 
 -- ---- a client's row
 
@@ -35,7 +35,7 @@ module _ (m n : ℕ) (service : List ℕ) (rows : Rows m n service) (j i : ℕ) 
 
   -- the rows come to few entries
   pub entry-early : j * m + i < 4096
-  entry-early = omega (arith, row-within m n j client, few-entries m n (rows .few-facilities) (rows .few-clients))
+  entry-early = omega (arith, row-within m n j client, few-places m n (rows .few-facilities) (rows .few-clients))
 
 -- ---- the facilities of a set, as they are listed
 

@@ -8,9 +8,9 @@ use lib.ListN.{length, getD, set}
 use lib.Seq.{getD-set-same, getD-set-other}
 use Rattle.model.proofs.LoopLaws.{up-to}
 use Rattle.model.proofs.SumLaws.{sum-none, sum-more, sum-bound}
+use Rattle.model.proofs.PlaceLaws.{row-within}
 use Rattle.engine.specs.Bounds.{mostEntry, wordEnd, addedFrom, moreFrom, keptLength}
 use Rattle.engine.specs.Rows.{Rows, entry, RowWithin, Differences, Risen, Fallen, Shiftable, Shifted, ShiftedBoth, Addable, RowAdded, Aside, NoSums, ColumnSums}
-use Rattle.engine.proofs.TableLaws.{row-within}
 
 -- ---- what the costs of a row are above one cost and not above another
 

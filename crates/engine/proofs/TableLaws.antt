@@ -1,6 +1,5 @@
--- Laws of the engine's tables: filling one, where entries lie, what good tables say, and that tables which agree cost the same.
+-- Laws of the engine's tables: filling one, what good tables say, and that tables which agree cost the same.
 use Prim.Native.Nat.{ℕ, _+_, _*_, _≤_, _<_}
-use native.Mathlib.Nat.{mul-le-mul, mul-le-mul-right, add-mul}
 use native.Mathlib.Decide.{decLt}
 use native.Mathlib.Omega.{arith}
 use mathlib.Core.Path.{_≡_, refl, sym, ap, ap₂, fun-ext, _∙_}
@@ -16,23 +15,13 @@ use Rattle.model.specs.Instance.{nearest, serviceCost, totalCost}
 use Rattle.model.specs.Plans.{openCost}
 use Rattle.model.proofs.Bools.{and-left, and-right, cases}
 use Rattle.model.proofs.LoopLaws.{all-at, all-from, all-stops}
-use Rattle.model.proofs.PlaceLaws.{same-most}
+use Rattle.model.proofs.PlaceLaws.{same-most, row-within, few-places}
 use Rattle.model.proofs.CountLaws.{count-some, count-find, count-le}
 use Rattle.model.proofs.SumLaws.{sum-more}
 use Rattle.model.proofs.CostLaws.{service-once, same-service, same-opening}
 use Rattle.engine.specs.Bounds.{mostClients, mostEntry, mostOpening, noOpening, keptLength, serviceLength}
 use Rattle.engine.specs.Tables.{tabled, tableCost, openingWithin, entryWithin, goodTables, tooHighAt, Openings, Copied, Behind, Blank}
 use Rattle.engine.specs.Rows.{Rows}
-
--- ---- where entries lie
-
--- so few clients and facilities have few entries
-pub few-entries : (m n : ℕ) → m ≤ 32 → n ≤ mostClients → n * m ≤ 4096
-few-entries m n facilities clients = omega (arith, mul-le-mul clients facilities)
-
--- row j of n rows of m entries ends within them
-pub row-within : (m n j : ℕ) → j < n → j * m + m ≤ n * m
-row-within m n j l = let rows : (j + 1) * m ≤ n * m = mul-le-mul-right m (omega arith) in omega (arith, add-mul j 1 m)
 
 -- ---- filling a table
 
@@ -182,7 +171,7 @@ module _ {m n : ℕ} {opening service : List ℕ} (good : Good m n opening servi
       record {
         few-facilities = good .few-facilities;
         few-clients = good .few-clients;
-        room = omega (arith, few-entries m n (good .few-facilities) (good .few-clients));
+        room = omega (arith, few-places m n (good .few-facilities) (good .few-clients));
         within = λ k. elim (decLt k (n * m)) [
           | yes l ↦ omega (arith, copied k l, good .entries k l)
           | no g ↦ omega (arith, behind k (omega arith), low k)

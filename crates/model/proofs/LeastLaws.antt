@@ -93,18 +93,6 @@ unfolding any arg
 arg-least zero S v e = absurd (true≢false (sym e))
 arg-least (suc i) S v e = step i (arg i S v) S v (S i) refl (any i S) refl _ (test< (v i) (v (arg i S v))) (arg-least i S v) e
 
--- whatever member a loop found to be the least, and the first of those, it is `arg`
-pub arg-is : (m a : ℕ) (S : ℕ → Bool) (v : ℕ → ℕ) → Least m S v a → arg m S v ≡ a
-arg-is m a S v r = go (arg m S v) (arg-least m S v (any-of m a S (r .below) (r .is-in)))
-  where
-    go : (b : ℕ) → Least m S v b → b ≡ a
-    go b q = at (ltb a b) (test< a b) (ltb b a) (test< b a)
-      where
-        at : (c : Bool) → Lt? a b c → (d : Bool) → Lt? b a d → b ≡ a
-        at true (less l) d y = absurd (omega (arith, q .first a l (r .is-in), r .lowest b (q .below) (q .is-in)))
-        at false (more l) true (less k) = absurd (omega (arith, r .first b k (q .is-in), q .lowest a (r .below) (r .is-in)))
-        at false (more l) false (more k) = omega arith
-
 pub arg-cong : (m : ℕ) (S T : ℕ → Bool) (v : ℕ → ℕ) → ((i : ℕ) → i < m → S i ≡ T i) → arg m S v ≡ arg m T v
 unfolding arg
 arg-cong zero S T v h = refl

@@ -1,5 +1,6 @@
--- The places of a table: as a loop fills them one by one, with one of them changed, and where all hold the same.
-use Prim.Native.Nat.{ℕ, _+_, _≤_, _<_}
+-- The places of a table: as a loop fills them one by one, with one of them changed, where all hold the same, and in rows.
+use Prim.Native.Nat.{ℕ, _+_, _*_, _≤_, _<_}
+use native.Mathlib.Nat.{mul-le-mul, mul-le-mul-right, add-mul}
 use native.Mathlib.Omega.{arith}
 use native.Mathlib.Decide.{decLt}
 use mathlib.Core.Path.{_≡_, sym, subst, _∙_}
@@ -35,3 +36,11 @@ same-most n x k =
       | yes l ↦ omega (arith, getD-replicate {A = ℕ} n k x 0 l)
       | no g ↦ omega (arith, List·getD-eq-default (replicate n x) 0 {n = k} (omega (arith, length-replicate {A = ℕ} n x)))
     ]
+
+-- row j of n rows of m places ends within them
+pub row-within : (m n j : ℕ) → j < n → j * m + m ≤ n * m
+row-within m n j l = let rows : (j + 1) * m ≤ n * m = mul-le-mul-right m (omega arith) in omega (arith, add-mul j 1 m)
+
+-- a row for each of so few clients, with a place for each of so few facilities
+pub few-places : (m n : ℕ) → m ≤ 32 → n ≤ 128 → n * m ≤ 4096
+few-places m n facilities clients = omega (arith, mul-le-mul clients facilities)

@@ -2,7 +2,6 @@
 -- Idea: every step lowers the cost, so the cost of a set is fuel enough from it, and a search that is cut may be continued.
 use Prim.Native.Nat.{ℕ, zero, suc, _+_, _-_, _≤_, _<_}
 use native.Mathlib.Nat.{le-refl, le-trans, zero-add, suc-add, add-suc, add-zero}
-use native.Mathlib.Numerals.{add-one}
 use native.Mathlib.Omega.{arith}
 use native.Mathlib.Decide.{decLt}
 use mathlib.Core.Path.{_≡_, refl, sym, ap, subst, _∙_}
@@ -135,13 +134,6 @@ module _ (cost : ℕ → ℕ) where
         → descend (suc fuel) set steps ≡ descend fuel (next set) (suc steps)
     unfolding Search.descend
     descend-moves fuel set steps h = rw (lt-ltb (cost (next set)) (cost set) h, Search.descend)
-
-    -- the same, as a loop counts: the fuel left is what `all` leaves after the steps made
-    pub descend-turn : (all set steps : ℕ) → cost set + steps ≤ all → cost (next set) < cost set
-        → descend (all - steps) set steps ≡ descend (all - (steps + 1)) (next set) (steps + 1)
-    descend-turn all set steps room lower =
-        let e : all - steps ≡ suc (all - (steps + 1)) = omega arith in
-        rw (e, descend-moves (all - (steps + 1)) set steps lower, add-one)
 
     -- ---- what a search of any length does
 

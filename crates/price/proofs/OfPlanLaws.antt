@@ -11,10 +11,10 @@ use Rattle.model.specs.Instance.{Instance, totalCost}
 use Rattle.model.proofs.Bools.{and-right}
 use Rattle.sheet.specs.Records.{splice}
 use Rattle.sheet.specs.Answers.{Answer, accepted}
-use Rattle.sheet.specs.Sheet.{yards, instanceOf, instanceBy}
+use Rattle.sheet.specs.Sheet.{yards, instanceOf}
 use Rattle.sheet.specs.Reading.{reading}
 use Rattle.sheet.proofs.ReadingLaws.{same-result, apart, asked, read-first}
-use Rattle.sheet.proofs.AcceptedLaws.{accepts, door}
+use Rattle.sheet.proofs.AcceptedLaws.{accepts, door, facilities-are}
 use Rattle.price.specs.Plan.{planBytes, question9, planSet}
 use Rattle.price.specs.Pricing.{Result, Plan, plan, meaning, answer, areaAfter, OfPlan, question8, pricing, SetKept}
 use Rattle.price.specs.declared.Planned.{Planned}
@@ -66,10 +66,6 @@ module _ (outcome : Answer Plan) (r : Planned) (area next : List ℕ)
       go (Refused k) told hold = absurd (apart (sym (told ∙ ap answer e)))
 
 -- ---- pricing
-
-facilities-are : (s : List ℕ) → instanceOf s .facilities ≡ yards s
-unfolding instanceOf instanceBy
-facilities-are s = refl
 
 module _ (s : List ℕ) (set room : ℕ) (p : Plan) (h : pricing s set room ≡ accepted p) where
   -- the plan that pricing makes is that of the set given

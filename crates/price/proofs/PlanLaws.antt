@@ -13,13 +13,13 @@ use Rattle.model.specs.Instance.{Instance, nearest, assigned}
 use Rattle.model.proofs.Bools.{cases, and-left, and-right}
 use Rattle.model.proofs.SumLaws.{on-le}
 use Rattle.model.proofs.CountLaws.{count-le}
+use Rattle.model.proofs.PlaceLaws.{few-places}
 use Rattle.sheet.specs.Records.{recordOf, recordAt, wholeRecordAt, bytesOf, splice}
 use Rattle.sheet.specs.declared.record.Record.{Record}
 use Rattle.sheet.specs.Sheet.{fee, instanceBy}
 use Rattle.sheet.specs.Shape.{Shape}
 use Rattle.sheet.specs.Reading.{stretch}
 use Rattle.sheet.proofs.RecordLaws.{whole}
-use Rattle.sheet.proofs.ShapeLaws.{few-hauls}
 use Rattle.sheet.proofs.SpliceLaws.{length-bytes, splice-turn}
 use Rattle.price.specs.declared.nearest.Nearest.{Nearest}
 use Rattle.price.specs.Nearest.{nearestOn}
@@ -159,7 +159,7 @@ module _ (m n room : ℕ) where
 
   -- the records of a sheet with so many yards and farms are few
   pub few-records : planFits m n room ≡ true → m + n * m ≤ 4128
-  few-records h = let f = fits-says h in omega (arith, f .few-yards, few-hauls m n (f .few-yards) (f .few-farms))
+  few-records h = let f = fits-says h in omega (arith, f .few-yards, few-places m n (f .few-yards) (f .few-farms))
 
   pub fits-shape : (s : List ℕ) → planFits m n room ≡ true → 8 * (m + n * m) ≤ length s → Shape s m n
   fits-shape s h enough = let f = fits-says h in record { room = enough; few-yards = f .few-yards; few-farms = f .few-farms }

@@ -15,7 +15,7 @@ use Rattle.model.proofs.PlanLaws.{open-plan-keeps, limited-plan-keeps}
 use Rattle.bounds.proofs.Searches.{open-plan-bound, open-plan-thrice, limited-plan-bound}
 use Rattle.sheet.specs.Answers.{accepted}
 use Rattle.sheet.specs.Sheet.{yards, instanceOf, instanceBy}
-use Rattle.sheet.proofs.AcceptedLaws.{WithinBounds, door, accepts}
+use Rattle.sheet.proofs.AcceptedLaws.{WithinBounds, door, accepts, facilities-are}
 use Rattle.price.specs.Pricing.{Plan, meaning, answer, areaAfter, OfPlan}
 use Rattle.price.specs.declared.Planned.{Planned}
 use Rattle.price.proofs.OfPlanLaws.{PlanOf, of-plan}
@@ -25,10 +25,6 @@ use Rattle.search.specs.Promises.{OfSize, LimitedPlanSized, NoOpenMove, 
 use Rattle.search.proofs.PlanningLaws.{open-when, limited-when}
 
 -- ---- the sets that the searches end in
-
-facilities-are : (s : List ℕ) → instanceOf s .facilities ≡ yards s
-unfolding instanceOf instanceBy
-facilities-are s = refl
 
 module _ (s : List ℕ) (w : WithinBounds (instanceOf s)) where
   open-set : PlanOf (openSearch (instanceOf s) (openStart (instanceOf s)) .set) (openPlan (instanceOf s))

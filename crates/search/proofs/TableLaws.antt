@@ -20,8 +20,8 @@ use Rattle.price.specs.Nearest.{amountAt}
 use Rattle.engine.specs.Tables.{tabled, tableCost, goodTables}
 use Rattle.engine.specs.declared.Neighbourhood.{Neighbourhood}
 use Rattle.engine.specs.declared.Neighbourhood.the-variants.{AddDropSwap, Swap}
-use Rattle.model.proofs.PlaceLaws.{front-more}
-use Rattle.engine.proofs.TableLaws.{row-within, good-from}
+use Rattle.model.proofs.PlaceLaws.{front-more, row-within}
+use Rattle.engine.proofs.TableLaws.{good-from}
 use Rattle.search.specs.Tables.{Holds, Free, OpeningBy}
 
 -- ---- filling a table

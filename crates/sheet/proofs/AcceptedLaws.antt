@@ -13,6 +13,7 @@ use Rattle.model.specs.Loops.{allBelow}
 use Rattle.model.specs.Instance.{Instance, metric}
 use Rattle.model.proofs.Bools.{and-left, and-right}
 use Rattle.model.proofs.LoopLaws.{leading-holds, all-at}
+use Rattle.model.proofs.PlaceLaws.{row-within}
 use Rattle.sheet.specs.declared.record.Record.{Record}
 use Rattle.sheet.specs.Records.{recordOf, recordAt, wellFormed}
 use Rattle.sheet.specs.Answers.{accepted}
@@ -22,7 +23,6 @@ use Rattle.sheet.specs.Shape.{Shape}
 use Rattle.sheet.specs.Reading.{counts, form, reading}
 use Rattle.sheet.specs.OnePass.{Passes}
 use Rattle.sheet.proofs.ReadingLaws.{Formed, formed, accepted-when, amounts-accepted}
-use Rattle.sheet.proofs.ShapeLaws.{row-within}
 use Rattle.sheet.proofs.FormLaws.{yards-le, hauls-are, some-yards, few-yards, whole-records, well-formed, yard-numbered, no-yard-after, hauls-shared, some-farms, few-farms, haul-numbered}
 
 -- what questions 1 to 4 say of a sheet of m yards and n farms
@@ -116,6 +116,10 @@ shape-of f =
 pub instance-is : {s : List ℕ} {m n : ℕ} → HasForm s m n → instanceBy s m n ≡ instanceOf s
 unfolding instanceOf
 instance-is {s} f = ap₂ (instanceBy s) (sym (f .yards-are)) (sym (f .farms-are))
+
+pub facilities-are : (s : List ℕ) → instanceOf s .facilities ≡ yards s
+unfolding instanceOf instanceBy
+facilities-are s = refl
 
 pub sixth-is : {s : List ℕ} {m n : ℕ} → HasForm s m n → metric (instanceBy s m n) ≡ question6 s
 unfolding question6

@@ -6,13 +6,13 @@ use mathlib.Core.List.{List, []}
 use borrow.Author.Tests.{lt-ltb, le-ltb}
 use lib.ListN.{length, getD, take, drop, length-drop}
 use lib.Seq.{getD-take, getD-drop, length-take-le}
+use Rattle.model.proofs.PlaceLaws.{row-within}
 use Rattle.sheet.specs.Records.{recordOf, recordAt}
 use Rattle.sheet.specs.Answers.{accepted, refused}
 use Rattle.sheet.specs.Sheet.{place, haul}
 use Rattle.sheet.specs.Shape.{Shape}
 use Rattle.sheet.specs.Reading.{counts, form, stretch, stretchBy, farmHauls}
 use Rattle.sheet.proofs.StretchLaws.{stretch-is}
-use Rattle.sheet.proofs.ShapeLaws.{row-within}
 use Rattle.sheet.proofs.AcceptedLaws.{has-form, shape-of}
 
 -- a byte of a part of the bytes, and a record of it, is that at its place in the whole

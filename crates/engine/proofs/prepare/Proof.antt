@@ -3,8 +3,9 @@ use mathlib.Core.Path.{_∙_}
 use Prim.Native.Nat.{_+_}
 use native.Mathlib.Omega.{arith}
 use borrow.Author.Needs.{needs}
+use Rattle.model.proofs.PlaceLaws.{few-places}
 use Rattle.engine.specs.Bounds.{addedFrom}
-use Rattle.engine.proofs.TableLaws.{few-entries, good-when, rows-of}
+use Rattle.engine.proofs.TableLaws.{good-when, rows-of}
 use Rattle.engine.proofs.PreparingLaws.{prepared}
 use Rattle.engine.proofs.prepare.Statement.{statement}
 use Rattle.engine.proofs.prepare.Tie as tie
@@ -19,13 +20,13 @@ mul-copy-service : tie.Need-mul-copy-service
 mul-copy-service c = let s = c .before .before .before .before .before .before .before .before .before in
     let a = s .args in
     let good = good-when (a .m) (a .n) (a .opening .now) (a .service .now) (s .pre .0) in
-    omega (arith, few-entries (a .m) (a .n) (good .few-facilities) (good .few-clients))
+    omega (arith, few-places (a .m) (a .n) (good .few-facilities) (good .few-clients))
 
 copy-service-requires : tie.Need-copy-service-requires
 copy-service-requires c κs = let s = c .before .before .before .before .before .before .before .before .before .before in
     let a = s .args in
     let good = good-when (a .m) (a .n) (a .opening .now) (a .service .now) (s .pre .0) in
-    (good .service-room, omega (arith, few-entries (a .m) (a .n) (good .few-facilities) (good .few-clients), s .pre .1 .service-room))
+    (good .service-room, omega (arith, few-places (a .m) (a .n) (good .few-facilities) (good .few-clients), s .pre .1 .service-room))
 
 put-front-requires : tie.Need-put-front-requires
 put-front-requires c κs = search needs

@@ -4,7 +4,7 @@ use native.Mathlib.Omega.{arith}
 use native.Mathlib.Nat.{add-sub-cancel-left}
 use Prim.Native.Nat.{ℕ, _+_, _*_}
 use lib.ListN.{take, drop}
-use Rattle.sheet.proofs.ShapeLaws.{few-hauls}
+use Rattle.model.proofs.PlaceLaws.{few-places}
 use Rattle.sheet.proofs.StretchLaws.{stretch-is, no-such-yards, no-such-farm, no-room}
 use borrow.Author.Needs.{needs}
 use Rattle.sheet.proofs.farm_stretch.Statement.{statement}
@@ -23,19 +23,19 @@ returns-2 : tie.Need-returns-2
 returns-2 c = sym (no-such-farm _ _ _ (omega arith) (c .before .if2 .taken))
 
 mul-from : tie.Need-mul-from
-mul-from c = omega (arith, few-hauls (c .before .before .args .yards) (c .before .before .args .farm) (omega arith) (omega arith))
+mul-from c = omega (arith, few-places (c .before .before .args .yards) (c .before .before .args .farm) (omega arith) (omega arith))
 
 add-from : tie.Need-add-from
-add-from c = omega (arith, few-hauls (c .before .before .args .yards) (c .before .before .args .farm) (omega arith) (omega arith))
+add-from c = omega (arith, few-places (c .before .before .args .yards) (c .before .before .args .farm) (omega arith) (omega arith))
 
 mul-from-2 : tie.Need-mul-from-2
-mul-from-2 c = omega (arith, few-hauls (c .before .before .args .yards) (c .before .before .args .farm) (omega arith) (omega arith))
+mul-from-2 c = omega (arith, few-places (c .before .before .args .yards) (c .before .before .args .farm) (omega arith) (omega arith))
 
 mul-to : tie.Need-mul-to
 mul-to c = search needs
 
 add-to : tie.Need-add-to
-add-to c = omega (arith, few-hauls (c .before .before .args .yards) (c .before .before .args .farm) (omega arith) (omega arith))
+add-to c = omega (arith, few-places (c .before .before .args .yards) (c .before .before .args .farm) (omega arith) (omega arith))
 
 slice-aggregate-result-3 : tie.Need-slice-aggregate-result-3
 slice-aggregate-result-3 c = search needs

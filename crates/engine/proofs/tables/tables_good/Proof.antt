@@ -3,7 +3,8 @@ use mathlib.Core.Path.{sym}
 use native.Mathlib.Omega.{arith}
 use borrow.Author.Needs.{needs}
 use Rattle.model.proofs.Bools.{said-no, said-yes}
-use Rattle.engine.proofs.TableLaws.{few-entries, no-facility, many-facilities, many-clients, opening-short, service-short, opening-high, entries-tell}
+use Rattle.model.proofs.PlaceLaws.{few-places}
+use Rattle.engine.proofs.TableLaws.{no-facility, many-facilities, many-clients, opening-short, service-short, opening-high, entries-tell}
 use Rattle.engine.proofs.tables.tables_good.Statement.{statement}
 use Rattle.engine.proofs.tables.tables_good.Tie as tie
 
@@ -29,7 +30,7 @@ returns-4 c = let s = c .before .before .before .before .before .before in
 
 mul-if5 : tie.Need-mul-if5
 mul-if5 c = let s = c .before .before .before .before .before .before in
-    omega (arith, few-entries (s .args .m) (s .args .n) (c .before .before .if2 .left) (c .before .if3 .left))
+    omega (arith, few-places (s .args .m) (s .args .n) (c .before .before .if2 .left) (c .before .if3 .left))
 
 returns-5 : tie.Need-returns-5
 returns-5 c = let s = c .before .before .before .before .before .before .before in
@@ -49,7 +50,7 @@ mul-high-count c = search needs
 
 high-count-requires : tie.Need-high-count-requires
 high-count-requires c κs = let s = c .before .before .before .before .before .before .before .before .before in
-    (c .before .before .if5 .left, few-entries (s .args .m) (s .args .n) (c .before .before .before .before .before .if2 .left) (c .before .before .before .before .if3 .left))
+    (c .before .before .if5 .left, few-places (s .args .m) (s .args .n) (c .before .before .before .before .before .if2 .left) (c .before .before .before .before .if3 .left))
 
 returns-7 : tie.Need-returns-7
 returns-7 c = let s = c .before .before .before .before .before .before .before .before .before .before in

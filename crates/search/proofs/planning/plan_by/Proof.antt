@@ -5,11 +5,11 @@ use Prim.Native.Nat.{ℕ}
 use native.Mathlib.Omega.{arith}
 use lib.ListN.{getD-replicate}
 use borrow.Author.Needs.{needs}
+use Rattle.model.proofs.PlaceLaws.{few-places}
 use Rattle.sheet.specs.Answers.{accepted}
 use Rattle.sheet.specs.Sheet.{instanceBy}
 use Rattle.sheet.proofs.AcceptedLaws.{accepts, shape-of}
 use Rattle.price.proofs.PricingLaws.{as-outcome}
-use Rattle.engine.proofs.TableLaws.{few-entries}
 use Rattle.search.specs.Settling.{planOf}
 use Rattle.search.proofs.TableLaws.{tables-good}
 use Rattle.search.proofs.PreparingLaws.{reached}
@@ -28,7 +28,7 @@ fill-opening-requires c κs = let s = c .before .before .before in
 mul-fill : tie.Need-mul-fill
 mul-fill c = let s = c .before .before .before .before .before in
     let form = accepts _ _ _ (s .pre .0) .has in
-    omega (arith, few-entries (s .args .m) (s .args .n) (form .few-yards) (form .few-farms))
+    omega (arith, few-places (s .args .m) (s .args .n) (form .few-yards) (form .few-farms))
 
 slice-aggregate-fill : tie.Need-slice-aggregate-fill
 slice-aggregate-fill c = search needs
@@ -36,7 +36,7 @@ slice-aggregate-fill c = search needs
 fill-requires : tie.Need-fill-requires
 fill-requires c κs = let s = c .before .before .before .before .before .before in
     let form = accepts _ _ _ (s .pre .0) .has in
-    (omega (arith, shape-of form .room), omega (arith, few-entries (s .args .m) (s .args .n) (form .few-yards) (form .few-farms)))
+    (omega (arith, shape-of form .room), omega (arith, few-places (s .args .m) (s .args .n) (form .few-yards) (form .few-farms)))
 
 slice-aggregate-search-on : tie.Need-slice-aggregate-search-on
 slice-aggregate-search-on c = search needs
@@ -48,7 +48,7 @@ search-on-requires : tie.Need-search-on-requires
 search-on-requires c κs = let s = c .before .before .before .before .before .before .before .before .before .before in
     let all = accepts _ _ _ (s .pre .0) in (
       tables-good (s .args .sheet .now) (s .args .m) (s .args .n) all (s .args .neighbourhood) _ _ (omega (arith, all .has .few-yards))
-          (omega (arith, few-entries (s .args .m) (s .args .n) (all .has .few-yards) (all .has .few-farms)))
+          (omega (arith, few-places (s .args .m) (s .args .n) (all .has .few-yards) (all .has .few-farms)))
           (c .before .before .before .before .before .before .fill-opening .ensures) (c .before .before .before .fill .ensures),
       s .pre .1,
       s .pre .2,

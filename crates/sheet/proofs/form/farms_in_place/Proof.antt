@@ -6,7 +6,7 @@ use native.Mathlib.Omega.{arith}
 use Rattle.model.proofs.Bools.{said-no, said-yes}
 use Rattle.model.specs.Loops.{allBelow}
 use Rattle.model.proofs.LoopLaws.{all-none, all-more, all-stops}
-use Rattle.sheet.proofs.ShapeLaws.{row-within}
+use Rattle.model.proofs.PlaceLaws.{row-within}
 use Rattle.sheet.specs.Questions.{farmInPlace}
 use Rattle.sheet.proofs.form.farms_in_place.Statement.{statement}
 use Rattle.sheet.proofs.form.farms_in_place.Tie as tie

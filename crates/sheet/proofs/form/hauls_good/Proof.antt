@@ -2,9 +2,9 @@
 use mathlib.Core.Path.{_≡_, sym, _∙_}
 use native.Mathlib.Omega.{arith}
 use Prim.Native.Nat.{_*_}
+use Rattle.model.proofs.PlaceLaws.{few-places}
 use Rattle.sheet.specs.Sheet.{yards, hauls, farms}
 use Rattle.sheet.proofs.QuestionLaws.{no-farms, many-farms, uneven, even}
-use Rattle.sheet.proofs.ShapeLaws.{few-hauls}
 use Rattle.sheet.proofs.FormLaws.{yards-le, hauls-are}
 use Rattle.sheet.proofs.form.hauls_good.Statement.{statement}
 use Rattle.sheet.proofs.form.hauls_good.Tie as tie
@@ -20,7 +20,7 @@ sub-if3 c = omega (arith, yards-le (c .before .before .before .args .sheet .now)
 
 mul-if3 : tie.Need-mul-if3
 mul-if3 c = let s = c .before .before .before in
-    omega (arith, few-hauls (s .args .m) (s .args .n) (s .pre .2) (omega arith))
+    omega (arith, few-places (s .args .m) (s .args .n) (s .pre .2) (omega arith))
 
 returns-3 : tie.Need-returns-3
 returns-3 c = let s = c .before .before .before .before in

@@ -2,8 +2,8 @@
 use native.Mathlib.Omega.{arith}
 use borrow.Author.Tests.{not-false}
 use Rattle.model.proofs.Bools.{said-no, said-yes}
+use Rattle.model.proofs.PlaceLaws.{few-places}
 use Rattle.sheet.proofs.FormLaws.{yards-le}
-use Rattle.sheet.proofs.ShapeLaws.{few-hauls}
 use Rattle.sheet.proofs.OnePassLaws.{passes}
 use Rattle.sheet.proofs.ToldLaws.{bad-length, bad-yards, bad-yard, bad-farms, left-over, bad-farm}
 use borrow.Author.Needs.{needs}
@@ -40,7 +40,7 @@ sub-if6 : tie.Need-sub-if6
 sub-if6 c = omega (arith, yards-le (c .before .before .before .before .before .before .before .before .before .before .args .sheet .now))
 
 mul-if6 : tie.Need-mul-if6
-mul-if6 c = omega (arith, few-hauls (c .before .before .before .before .before .leading-yards .result) (c .before .before .farm-count .result) (omega arith) (omega arith))
+mul-if6 c = omega (arith, few-places (c .before .before .before .before .before .leading-yards .result) (c .before .before .farm-count .result) (omega arith) (omega arith))
 
 returns-6 : tie.Need-returns-6
 returns-6 c = let counted = c .before .before .before in
