@@ -77,7 +77,7 @@ module _ (m n : ℕ) (opening service kept : List ℕ) (rows : Rows m n service)
       omega (arith, columns i l, sum-bound n mostEntry (λ j. entry m service j i) (λ j l. rows .within (j * m + i)), rows .few-clients)
 
   pub alone-fits : Openings m opening → (i : ℕ) → i < m → getD opening i 0 + getD kept (addedFrom + i) 0 < wordEnd
-  alone-fits fees i l = omega (arith, fees .small i l, column-small i (omega (arith, rows .few-facilities)))
+  alone-fits opened i l = omega (arith, opened .small i l, column-small i (omega (arith, rows .few-facilities)))
 
   -- ---- the cheapest of the facilities passed
 

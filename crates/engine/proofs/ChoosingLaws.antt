@@ -39,7 +39,7 @@ unfolding tableCost openCost totalCost
 cost-part m n opening service set = omega arith
 
 module _ (m n : ℕ) (opening service : List ℕ) (b : Priced) (kept : List ℕ)
-    (here : Standing m n service (b .set) kept) (fees : Openings m opening)
+    (here : Standing m n service (b .set) kept) (opened : Openings m opening)
     (list : List ℕ) (places : ℕ) (listed : Listed (b .set) list places) where
   abbrev few : m ≤ 32
   few = here .sums .rows .few-facilities
@@ -53,7 +53,7 @@ module _ (m n : ℕ) (opening service : List ℕ) (b : Priced) (kept : List ℕ)
   within-by : (most : ℕ) → ((t : ℕ) → t < places → getD opening (getD list t 0) 0 ≤ most) → ListedWithin opening list places most
   within-by most h =
       record {
-        opening-room = fees .room;
+        opening-room = opened .room;
         list-room = list-room (b .set) m list places listed few (here .below);
         few = omega (arith, few, places-few (b .set) m list places listed few (here .below));
         below = λ t l. omega (arith, few, facility t l);
@@ -61,7 +61,7 @@ module _ (m n : ℕ) (opening service : List ℕ) (b : Priced) (kept : List ℕ)
       }
 
   pub listed-within : ListedWithin opening list places mostOpening
-  listed-within = within-by mostOpening (λ t l. fees .small (getD list t 0) (facility t l))
+  listed-within = within-by mostOpening (λ t l. opened .small (getD list t 0) (facility t l))
 
   -- what opening the listed ones costs is what opening the set costs
   pub openings-are : (k : ℕ) → k ≡ listedOpenings opening list places → k ≡ openingCost (tabled m n opening service) (member (b .set))
@@ -71,7 +71,7 @@ module _ (m n : ℕ) (opening service : List ℕ) (b : Priced) (kept : List ℕ)
   module _ (costs : List ℕ) (k : ℕ) (k-is : k ≡ listedOpenings opening list places) (added : Added 32 k opening kept costs)
       (costs-room : 32 ≤ length costs) (right : b ≡ priced (tableCost m n opening service) (b .set)) where
     given : MovePrices m n opening service (b .set) costs kept
-    given = prices m n opening service (b .set) kept here k costs fees (openings-are k k-is) added costs-room
+    given = prices m n opening service (b .set) kept here k costs opened (openings-are k k-is) added costs-room
 
     -- the opening cost of a listed one is part of those of the set
     part : (t : ℕ) → t < places → getD opening (getD list t 0) 0 ≤ k
@@ -85,7 +85,7 @@ module _ (m n : ℕ) (opening service : List ℕ) (b : Priced) (kept : List ℕ)
         record {
           few = few;
           below = omega (arith, few, facility t l);
-          small = fees .small (getD list t 0) (facility t l);
+          small = opened .small (getD list t 0) (facility t l);
           row = record {
             more-room = omega (arith, few, facility t l, here .sums .room);
             costs-room = costs-room;
@@ -103,7 +103,7 @@ module _ (m n : ℕ) (opening service : List ℕ) (b : Priced) (kept : List ℕ)
       record { room = omega (arith, here .sums .room); small = λ o l. given .kept-small (lossFrom + o) (omega arith) (omega arith) },
       omega (arith, cost-is, given .cost-small),
       omega (arith, few),
-      record { opening-room = fees .room; list-room = list-room (b .set) m list places listed few (here .below); rows = swap-row },
+      record { opening-room = opened .room; list-room = list-room (b .set) m list places listed few (here .below); rows = swap-row },
     )
 
     -- what is taken is the set that the model goes to

@@ -22,14 +22,14 @@ use Rattle.engine.proofs.KeptLaws.{kept-start}
 
 module _ (m n : ℕ) (opening service : List ℕ) where
   -- the tables are copied, the front of the kept one is set, and then the sums of the columns are added up
-  pub prepared : (fees₀ fees rows₀ rows kept₀ front kept : List ℕ) → Good m n opening service → Blank fees₀ rows₀ kept₀
-      → 32 ≤ length fees → serviceLength ≤ length rows → keptLength ≤ length kept → Copied m opening fees → Behind m fees₀ fees
+  pub prepared : (openings₀ openings rows₀ rows kept₀ front kept : List ℕ) → Good m n opening service → Blank openings₀ rows₀ kept₀
+      → 32 ≤ length openings → serviceLength ≤ length rows → keptLength ≤ length kept → Copied m opening openings → Behind m openings₀ openings
       → Copied (n * m) service rows → Behind (n * m) rows₀ rows → Front addedFrom noFacility front → Behind addedFrom kept₀ front
-      → Aside front kept → ColumnSums m n rows kept → Prepared m n opening service fees rows kept
-  prepared fees₀ fees rows₀ rows kept₀ front kept good blank fees-room rows-room kept-room a behind-a b behind-b far behind aside columns =
+      → Aside front kept → ColumnSums m n rows kept → Prepared m n opening service openings rows kept
+  prepared openings₀ openings rows₀ rows kept₀ front kept good blank openings-room rows-room kept-room a behind-a b behind-b far behind aside columns =
       let farthest : (k : ℕ) → k < addedFrom → getD kept k 0 ≡ noFacility = λ k l. aside .below k l ∙ far k l in
       record {
-        openings-good = openings-of good fees₀ fees fees-room (blank .opening-high) a behind-a;
+        openings-good = openings-of good openings₀ openings openings-room (blank .opening-high) a behind-a;
         openings-are = a;
         rows-are = b;
         sums =
@@ -42,18 +42,18 @@ module _ (m n : ℕ) (opening service : List ℕ) where
         };
       }
 
-  module _ (fees rows kept : List ℕ) (done : Prepared m n opening service fees rows kept) where
-    same : tableCost m n fees rows ≡ tableCost m n opening service
-    same = same-cost m n opening service fees rows (done .openings-are) (done .rows-are)
+  module _ (openings rows kept : List ℕ) (done : Prepared m n opening service openings rows kept) where
+    same : tableCost m n openings rows ≡ tableCost m n opening service
+    same = same-cost m n opening service openings rows (done .openings-are) (done .rows-are)
 
-    pub same-first : (start : Start) (first : ℕ) → first ≡ startSet start (tabled m n fees rows) → first ≡ startSet start (tabled m n opening service)
+    pub same-first : (start : Start) (first : ℕ) → first ≡ startSet start (tabled m n openings rows) → first ≡ startSet start (tabled m n opening service)
     unfolding startSet tableCost tabled
     same-first Cheapest first e =
-        e ∙ same-start (tabled m n fees rows) (tabled m n opening service) refl (λ set. ap (λ (cost : ℕ → ℕ). cost set) same)
+        e ∙ same-start (tabled m n openings rows) (tabled m n opening service) refl (λ set. ap (λ (cost : ℕ → ℕ). cost set) same)
     same-first (Set set) first e = e
 
-    pub same-found : (moves : Neighbourhood) (start : Start) (limit first : ℕ) (r : Found) → first ≡ startSet start (tabled m n fees rows)
-        → r ≡ found (tableCost m n fees rows) (searchWithin (tableCost m n fees rows) (neighboursBy moves m) limit first)
+    pub same-found : (moves : Neighbourhood) (start : Start) (limit first : ℕ) (r : Found) → first ≡ startSet start (tabled m n openings rows)
+        → r ≡ found (tableCost m n openings rows) (searchWithin (tableCost m n openings rows) (neighboursBy moves m) limit first)
         → r ≡ found (tableCost m n opening service)
         (searchWithin (tableCost m n opening service) (neighboursBy moves m) limit (startSet start (tabled m n opening service)))
     same-found moves start limit first r begins is =

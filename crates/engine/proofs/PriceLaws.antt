@@ -146,9 +146,9 @@ module _ (m n : ℕ) (opening service : List ℕ) (set : ℕ) (kept : List ℕ)
   cost-by x T agree = ap (λ (R : ℕ → Bool). openingCost I R + serviceCost I R) (fun-ext agree)
 
   -- the cost of the set itself
-  pub cost-now : (fees served : ℕ) → fees ≡ openingCost I S → served ≡ sum n (λ j. firstAt kept j / 32)
-      → fees + served ≡ tableCost m n opening service set
-  cost-now fees served f s = omega (arith, served-now, cost-by set S (λ k. refl))
+  pub cost-now : (opened served : ℕ) → opened ≡ openingCost I S → served ≡ sum n (λ j. firstAt kept j / 32)
+      → opened + served ≡ tableCost m n opening service set
+  cost-now opened served f s = omega (arith, served-now, cost-by set S (λ k. refl))
 
   below-32 : {i : ℕ} → i < m → i < 32
   below-32 l = omega (arith, here .sums .rows .few-facilities)
@@ -157,8 +157,8 @@ module _ (m n : ℕ) (opening service : List ℕ) (set : ℕ) (kept : List ℕ)
 
   pub opening-few : Openings m opening → openingCost I S ≤ mostOpened
   unfolding openingCost tabled
-  opening-few fees =
-      let each = sum-bound m mostOpening (λ i. on (S i) (getD opening i 0)) (λ i l. le-trans (on-le (S i) (getD opening i 0)) (fees .small i l)) in
+  opening-few opened =
+      let each = sum-bound m mostOpening (λ i. on (S i) (getD opening i 0)) (λ i l. le-trans (on-le (S i) (getD opening i 0)) (opened .small i l)) in
       omega (arith, here .sums .rows .few-facilities)
 
   served-few : serviceCost I S ≤ mostServed
@@ -167,19 +167,19 @@ module _ (m n : ℕ) (opening service : List ℕ) (set : ℕ) (kept : List ℕ)
       omega (arith, here .sums .rows .few-clients, served-now)
 
   pub cost-few : Openings m opening → tableCost m n opening service set ≤ mostCost
-  cost-few fees = omega (arith, cost-by set S (λ k. refl), opening-few fees, served-few)
+  cost-few opened = omega (arith, cost-by set S (λ k. refl), opening-few opened, served-few)
 
   -- what is added up place by place
   pub adding : (k : ℕ) (costs : List ℕ) → Openings m opening → k ≡ openingCost I S → 32 ≤ length costs → Adding k opening kept costs
-  adding k costs fees e room =
+  adding k costs opened e room =
       record {
-        opening-room = fees .room;
+        opening-room = opened .room;
         kept-room = omega (arith, here .sums .room);
         costs-room = room;
-        small = λ i l. omega (arith, opening-few fees, fees .high i l, kept-small (here .sums) (addedFrom + i) (omega arith) (omega arith));
+        small = λ i l. omega (arith, opening-few opened, opened .high i l, kept-small (here .sums) (addedFrom + i) (omega arith) (omega arith));
       }
 
-  module _ (costs : List ℕ) (fees : Openings m opening) (filled : Costs m n opening service set kept costs) where
+  module _ (costs : List ℕ) (opened : Openings m opening) (filled : Costs m n opening service set kept costs) where
     add-is : (i : ℕ) → i < m → S i ≡ false → getD costs i 0 ≡ tableCost m n opening service (with set i)
     unfolding tabled
     add-is i l shut =
@@ -224,13 +224,13 @@ module _ (m n : ℕ) (opening service : List ℕ) (set : ℕ) (kept : List ℕ)
     by-costs costs-room =
         record {
           few-facilities = here .sums .rows .few-facilities;
-          opening-room = fees .room;
+          opening-room = opened .room;
           costs-room = costs-room;
           kept-room = here .sums .room;
-          opening-small = fees .small;
-          costs-small = λ i l. omega (arith, filled i l, opening-few fees, fees .high i l, kept-small (here .sums) (addedFrom + i) (omega arith) (omega arith));
+          opening-small = opened .small;
+          costs-small = λ i l. omega (arith, filled i l, opening-few opened, opened .high i l, kept-small (here .sums) (addedFrom + i) (omega arith) (omega arith));
           kept-small = kept-small (here .sums);
-          cost-small = cost-few fees;
+          cost-small = cost-few opened;
           add = add-is;
           drop = drop-is;
           swap = swap-is;
@@ -239,5 +239,5 @@ module _ (m n : ℕ) (opening service : List ℕ) (set : ℕ) (kept : List ℕ)
   -- every move is priced
   pub prices : (k : ℕ) (costs : List ℕ) → Openings m opening → k ≡ openingCost I S → Added 32 k opening kept costs → 32 ≤ length costs
       → MovePrices m n opening service set costs kept
-  prices k costs fees e added =
-      by-costs costs fees (λ i l. added i l ∙ ap (λ (x : ℕ). x + getD opening i 0 + getD kept (addedFrom + i) 0) e)
+  prices k costs opened e added =
+      by-costs costs opened (λ i l. added i l ∙ ap (λ (x : ℕ). x + getD opening i 0 + getD kept (addedFrom + i) 0) e)

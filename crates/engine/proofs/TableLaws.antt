@@ -152,10 +152,10 @@ module _ (m n : ℕ) (opening service : List ℕ) where
 -- ---- the copies
 
 module _ {m n : ℕ} {opening service : List ℕ} (good : Good m n opening service) where
-  pub openings-of : (before fees : List ℕ) → 32 ≤ length fees → ((k : ℕ) → getD before k 0 ≤ noOpening) → Copied m opening fees → Behind m before fees
-      → Openings m fees
-  openings-of before fees room high copied behind =
-      let small : (i : ℕ) → i < m → getD fees i 0 ≤ mostOpening = λ i l. omega (arith, copied i l, good .openings i l) in
+  pub openings-of : (before openings : List ℕ) → 32 ≤ length openings → ((k : ℕ) → getD before k 0 ≤ noOpening) → Copied m opening openings → Behind m before openings
+      → Openings m openings
+  openings-of before openings room high copied behind =
+      let small : (i : ℕ) → i < m → getD openings i 0 ≤ mostOpening = λ i l. omega (arith, copied i l, good .openings i l) in
       record {
         room = room;
         small = small;
@@ -179,13 +179,13 @@ module _ {m n : ℕ} {opening service : List ℕ} (good : Good m n opening servi
       }
 
 -- tables that agree are of one cost
-pub same-cost : (m n : ℕ) (opening service fees rows : List ℕ) → Copied m opening fees → Copied (n * m) service rows
-    → tableCost m n fees rows ≡ tableCost m n opening service
+pub same-cost : (m n : ℕ) (opening service openings rows : List ℕ) → Copied m opening openings → Copied (n * m) service rows
+    → tableCost m n openings rows ≡ tableCost m n opening service
 unfolding tableCost openCost totalCost tabled
-same-cost m n opening service fees rows a b =
+same-cost m n opening service openings rows a b =
     fun-ext (λ set. ap₂ _+_
-    (same-opening (tabled m n fees rows) (tabled m n opening service) (member set) refl refl a)
-    (same-service (tabled m n fees rows) (tabled m n opening service) (member set) refl refl
+    (same-opening (tabled m n openings rows) (tabled m n opening service) (member set) refl refl a)
+    (same-service (tabled m n openings rows) (tabled m n opening service) (member set) refl refl
     (λ i j facility client. ap (λ x. 1 * x) (b (j * m + i) (omega (arith, row-within m n j client))))))
 
 -- ---- a loop over the clients

@@ -106,14 +106,14 @@ ColumnSums m n service kept = (i : ℕ) → i < mostFacilities → getD kept (ad
 -- ---- prices of a row of moves
 
 -- two tables and a number, to be added up place by place
-pub record Adding (fees : ℕ) (opening kept costs : List ℕ) : Type 0 where
+pub record Adding (opened : ℕ) (opening kept costs : List ℕ) : Type 0 where
   pub opening-room : mostFacilities ≤ length opening
   pub kept-room : lossFrom ≤ length kept
   pub costs-room : mostFacilities ≤ length costs
-  pub small : (i : ℕ) → i < mostFacilities → fees + getD opening i 0 + getD kept (addedFrom + i) 0 ≤ mostAdded
+  pub small : (i : ℕ) → i < mostFacilities → opened + getD opening i 0 + getD kept (addedFrom + i) 0 ≤ mostAdded
 
 abbrev pub Added : ℕ → ℕ → List ℕ → List ℕ → List ℕ → Type 0
-Added count fees opening kept costs = (i : ℕ) → i < count → getD costs i 0 ≡ fees + getD opening i 0 + getD kept (addedFrom + i) 0
+Added count opened opening kept costs = (i : ℕ) → i < count → getD costs i 0 ≡ opened + getD opening i 0 + getD kept (addedFrom + i) 0
 
 -- from a place of `more` on there are 32, each to be added to the cost of an add
 pub record Row (more : List ℕ) (at : ℕ) (costs : List ℕ) : Type 0 where

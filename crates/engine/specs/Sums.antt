@@ -99,9 +99,9 @@ pub record PutAt (j first second : ℕ) (before after : List ℕ) : Type 0 where
   pub others : Others j before after
 
 -- the tables that are lent are copied, the sums are those of the columns, and no client is counted
-pub record Prepared (m n : ℕ) (opening service fees rows kept : List ℕ) : Type 0 where
-  pub openings-good : Openings m fees
-  pub openings-are : Copied m opening fees
+pub record Prepared (m n : ℕ) (opening service openings rows kept : List ℕ) : Type 0 where
+  pub openings-good : Openings m openings
+  pub openings-are : Copied m opening openings
   pub rows-are : Copied (n * m) service rows
   pub sums : Kept m n rows kept
   pub columns : ColumnSums m n rows kept

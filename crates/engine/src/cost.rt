@@ -40,13 +40,13 @@ pub(crate) fn nearest_costs(kept: &[u64], n: usize) -> u64
 }
 
 // The cost with each facility added: opening costs of the set and of the facility, and the service cost with it.
-pub(crate) fn add_up(fees: u64, opening: &[u64], kept: &[u64], costs: &mut [u64])
-    requires { ⌜ Adding fees (now opening) (now kept) (now costs) ⌝ }
-    ensures { λ _. ⌜ Added mostFacilities fees (now (opening .entry)) (now (kept .entry)) (now (costs .exit)) ⌝ }
+pub(crate) fn add_up(opened: u64, opening: &[u64], kept: &[u64], costs: &mut [u64])
+    requires { ⌜ Adding opened (now opening) (now kept) (now costs) ⌝ }
+    ensures { λ _. ⌜ Added mostFacilities opened (now (opening .entry)) (now (kept .entry)) (now (costs .exit)) ⌝ }
 {
     let mut i = 0;
     while i < MOST_FACILITIES {
-        costs[i] = fees + opening[i] + kept[ADDED + i];
+        costs[i] = opened + opening[i] + kept[ADDED + i];
         i += 1;
     }
 }

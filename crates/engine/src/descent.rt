@@ -81,8 +81,8 @@ fn cost_now(opening: &[u64], service: &[u32], m: usize, n: usize, set: u32, kept
 {
     let members = sets::members_of(set);
     let list = members.list;
-    let fees = openings_of(opening, &list, members.count);
-    fees + nearest_costs(kept, n)
+    let opened = openings_of(opening, &list, members.count);
+    opened + nearest_costs(kept, n)
 }
 
 // The set after the best move, or the set itself where no move lowers the cost.
@@ -102,8 +102,8 @@ fn choose(
     let list = members.list;
     let count = members.count;
     let mut costs = [0u64; MOST_FACILITIES];
-    let fees = openings_of(opening, &list, count);
-    add_up(fees, opening, kept, &mut costs);
+    let opened = openings_of(opening, &list, count);
+    add_up(opened, opening, kept, &mut costs);
     best_move(neighbourhood, opening, m, b, &costs, kept, &list, count)
 }
 

@@ -75,14 +75,14 @@ fn prepare(
     service: &[u32],
     m: usize,
     n: usize,
-    fees: &mut [u64],
+    openings: &mut [u64],
     rows: &mut [u32],
     kept: &mut [u64],
 )
-    requires { ⌜ (goodTables m n (now opening) (now service) ≡ true) × Blank (now fees) (now rows) (now kept) ⌝ }
-    ensures { λ _. ⌜ Prepared m n (now (opening .entry)) (now (service .entry)) (now (fees .exit)) (now (rows .exit)) (now (kept .exit)) ⌝ }
+    requires { ⌜ (goodTables m n (now opening) (now service) ≡ true) × Blank (now openings) (now rows) (now kept) ⌝ }
+    ensures { λ _. ⌜ Prepared m n (now (opening .entry)) (now (service .entry)) (now (openings .exit)) (now (rows .exit)) (now (kept .exit)) ⌝ }
 {
-    tables::copy_opening(opening, m, fees);
+    tables::copy_opening(opening, m, openings);
     tables::copy_service(service, n * m, rows);
     tables::put_front(ADDED, NO_FACILITY, kept);
     rows::add_rows(rows, m, n, kept);
@@ -100,10 +100,10 @@ fn search_on(
     requires { ⌜ (goodTables m n (now opening) (now service) ≡ true) × (goodStart m start ≡ true) ⌝ }
     ensures { λ r. ⌜ r ≡ found (tableCost m n (now (opening .entry)) (now (service .entry))) (searchWithin (tableCost m n (now (opening .entry)) (now (service .entry))) (neighboursBy moves m) limit (startSet start (tabled m n (now (opening .entry)) (now (service .entry))))) ⌝ }
 {
-    let mut fees = [NO_OPENING; MOST_FACILITIES];
+    let mut openings = [NO_OPENING; MOST_FACILITIES];
     let mut rows = [0u32; SERVICE];
     let mut kept = [0u64; KEPT];
-    prepare(opening, service, m, n, &mut fees, &mut rows, &mut kept);
-    let first = descent::first_set(start, &fees, &rows, m, n, &kept);
-    descent::descend(moves, first, limit, &fees, &rows, m, n, &mut kept)
+    prepare(opening, service, m, n, &mut openings, &mut rows, &mut kept);
+    let first = descent::first_set(start, &openings, &rows, m, n, &kept);
+    descent::descend(moves, first, limit, &openings, &rows, m, n, &mut kept)
 }

@@ -52,7 +52,7 @@ same-length-3 c = search needs
 returns : tie.Need-returns
 returns c = let s = c .before .before .before .before .before .before .before .before .before .before .before .before .before .before .before .before .before .before .before .before .before .before in
     let a = s .args in
-    prepared (a .m) (a .n) (a .opening .now) (a .service .now) (a .fees .now) _ (a .rows .now) _ (a .kept .now) _ _ (good-when (a .m) (a .n) (a .opening .now) (a .service .now) (s .pre .0)) (s .pre .1)
+    prepared (a .m) (a .n) (a .opening .now) (a .service .now) (a .openings .now) _ (a .rows .now) _ (a .kept .now) _ _ (good-when (a .m) (a .n) (a .opening .now) (a .service .now) (s .pre .0)) (s .pre .1)
     (omega (arith, s .pre .1 .opening-room)) (omega (arith, s .pre .1 .service-room)) (omega (arith, s .pre .1 .kept-room))
     (c .before .before .before .before .before .before .before .before .before .before .before .before .before .before .before .copy-opening .ensures .0) (c .before .before .before .before .before .before .before .before .before .before .before .before .before .before .before .copy-opening .ensures .1) (c .before .before .before .before .before .before .before .before .before .before .before .copy-service .ensures .0) (c .before .before .before .before .before .before .before .before .before .before .before .copy-service .ensures .1)
     (c .before .before .before .before .before .before .before .put-front .ensures .0) (c .before .before .before .before .before .before .before .put-front .ensures .1) (c .before .before .add-rows .ensures .1) (c .before .before .add-rows .ensures .0)

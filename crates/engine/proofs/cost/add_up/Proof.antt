@@ -11,10 +11,10 @@ use Rattle.engine.proofs.cost.add_up.Statement.{statement}
 use Rattle.engine.proofs.cost.add_up.Tie as tie
 
 abbrev Inv-loop : tie.InvT-loop
-Inv-loop fees opening kept costs₀ i₀ costs i = (i ≤ 32) × (length costs ≡ length costs₀) × Added i fees opening kept costs
+Inv-loop opened opening kept costs₀ i₀ costs i = (i ≤ 32) × (length costs ≡ length costs₀) × Added i opened opening kept costs
 
 abbrev μ-loop : tie.MeasureT-loop
-μ-loop fees opening kept costs₀ i₀ costs i = 32 - i
+μ-loop opened opening kept costs₀ i₀ costs i = 32 - i
 
 loop-holds : tie.Need-loop-holds Inv-loop μ-loop
 loop-holds c = (omega arith, refl, λ k l. absurd (not-suc-le-zero l))
@@ -57,7 +57,7 @@ loop-again c = let a = c .before .before .before .before .args in
     let l = c .before .before .before .loop in (
       omega arith,
       simp length-set (l .inv .1),
-      front-more (λ k. a .fees + getD (a .opening .now) k 0 + getD (a .kept .now) (addedFrom + k) 0) (l .i) _ (l .costs)
+      front-more (λ k. a .opened + getD (a .opening .now) k 0 + getD (a .kept .now) (addedFrom + k) 0) (l .i) _ (l .costs)
           (omega (arith, c .before .before .before .before .pre .costs-room, l .inv .1)) refl (l .inv .2),
     )
 

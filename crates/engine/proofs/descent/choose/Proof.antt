@@ -26,9 +26,9 @@ add-up-requires : tie.Need-add-up-requires
 add-up-requires c κs = let members = c .before .before .before .before .members-of in
     let start = c .before .before .before .before .before .before .before .before in
     let a = start .args in
-    let fees-is = openings-are (a .m) (a .n) (a .opening .now) (a .service .now) (a .b) _ (start .pre .0) (start .pre .1)
+    let opened-is = openings-are (a .m) (a .n) (a .opening .now) (a .service .now) (a .b) _ (start .pre .0) (start .pre .1)
     _ _ (listed-is (a .b .set) (members .result) (members .ensures)) _ (c .before .openings-of .ensures) in
-    adding (a .m) (a .n) (a .opening .now) (a .service .now) (a .b .set) _ (start .pre .0) _ _ (start .pre .1) fees-is (search needs)
+    adding (a .m) (a .n) (a .opening .now) (a .service .now) (a .b .set) _ (start .pre .0) _ _ (start .pre .1) opened-is (search needs)
 
 slice-aggregate-best-move : tie.Need-slice-aggregate-best-move
 slice-aggregate-best-move c = search needs
@@ -38,21 +38,21 @@ slice-aggregate-best-move-2 c = search needs
 
 best-move-requires : tie.Need-best-move-requires
 best-move-requires c κs = let up = c .before .before .before in
-    let fees = up .before .before .openings-of in
+    let opened = up .before .before .openings-of in
     let members = up .before .before .before .before .before .members-of in
     let start = up .before .before .before .before .before .before .before .before .before in
     let a = start .args in
     moves-lent (a .m) (a .n) (a .opening .now) (a .service .now) (a .b) _ (start .pre .0) (start .pre .1)
-    _ _ (listed-is (a .b .set) (members .result) (members .ensures)) _ _ (fees .ensures) (up .add-up .ensures) (search needs) (start .pre .2)
+    _ _ (listed-is (a .b .set) (members .result) (members .ensures)) _ _ (opened .ensures) (up .add-up .ensures) (search needs) (start .pre .2)
 
 returns : tie.Need-returns
 returns c = let up = c .before .before .before .before in
-    let fees = up .before .before .openings-of in
+    let opened = up .before .before .openings-of in
     let members = up .before .before .before .before .before .members-of in
     let start = up .before .before .before .before .before .before .before .before .before in
     let a = start .args in
     chosen (a .m) (a .n) (a .opening .now) (a .service .now) (a .b) _ (start .pre .0) (start .pre .1)
-    _ _ (listed-is (a .b .set) (members .result) (members .ensures)) _ _ (fees .ensures) (up .add-up .ensures) (search needs) (start .pre .2)
+    _ _ (listed-is (a .b .set) (members .result) (members .ensures)) _ _ (opened .ensures) (up .add-up .ensures) (search needs) (start .pre .2)
     _ _ (c .best-move .ensures)
 
 pub choose-spec : {M : Type 1} → statement M
