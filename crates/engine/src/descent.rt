@@ -126,27 +126,20 @@ pub(crate) fn descend(
         set: start,
         cost: cost_now(opening, service, m, n, start, kept),
     };
-    let mut made: u64 = 0;
+    let mut moves: u64 = 0;
     loop {
         let next = choose(neighbourhood, opening, service, m, n, b, kept);
+        let set = b.set;
         let cost = b.cost;
         let lowest = next.cost;
         if cost <= lowest {
-            break Found::Settled {
-                set: b.set,
-                cost,
-                moves: made,
-            };
+            break Found::Settled { set, cost, moves };
         }
-        if limit <= made {
-            break Found::Stopped {
-                set: b.set,
-                cost,
-                moves: made,
-            };
+        if limit <= moves {
+            break Found::Stopped { set, cost, moves };
         }
-        move_to(service, m, n, b.set, next.set, kept);
+        move_to(service, m, n, set, next.set, kept);
         b = next;
-        made += 1;
+        moves += 1;
     }
 }

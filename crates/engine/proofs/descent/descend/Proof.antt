@@ -13,11 +13,11 @@ use Rattle.engine.proofs.descent.descend.Statement.{statement}
 use Rattle.engine.proofs.descent.descend.Tie as tie
 
 abbrev Inv-loop : tie.InvT-loop
-Inv-loop neighbourhood start limit opening service m n kept₀ b₀ made₀ kept b made = Going (tableCost m n opening service) (neighboursBy neighbourhood m) limit start b made
+Inv-loop neighbourhood start limit opening service m n kept₀ b₀ moves₀ kept b moves = Going (tableCost m n opening service) (neighboursBy neighbourhood m) limit start b moves
     × Standing m n service (b .set) kept × (length kept ≡ length kept₀)
 
 abbrev μ-loop : tie.MeasureT-loop
-μ-loop neighbourhood start limit opening service m n kept₀ b₀ made₀ kept b made = b .cost
+μ-loop neighbourhood start limit opening service m n kept₀ b₀ moves₀ kept b moves = b .cost
 
 begin-requires : tie.Need-begin-requires Inv-loop μ-loop
 begin-requires c κs = let s = c .before .before .before .before in
@@ -45,8 +45,8 @@ move-to-requires c κs = let s = c .before .before .before .before .before .befo
     let keeps = move-keeps (a .m) (l .b .set) (l .inv .1 .below) (to .result .set) step in
     (l .inv .1, moved-is (a .m) (l .b .set) (to .result .set) (l .inv .1 .sums .rows .few-facilities) step, keeps .0, keeps .1)
 
-add-made : tie.Need-add-made Inv-loop μ-loop
-add-made c = omega (arith, c .before .before .before .before .if2 .left, c .before .before .before .before .before .before .before .before .before .before .before .before .before .before .before .before .before .before .fits .limit)
+add-moves : tie.Need-add-moves Inv-loop μ-loop
+add-moves c = omega (arith, c .before .before .before .before .if2 .left, c .before .before .before .before .before .before .before .before .before .before .before .before .before .before .before .before .before .before .fits .limit)
 
 loop-less : tie.Need-loop-less Inv-loop μ-loop
 loop-less c = c .before .before .before .before .before .if1 .left
@@ -89,7 +89,7 @@ descend-spec =
     loop-holds
     choose-requires
     move-to-requires
-    add-made
+    add-moves
     loop-less
     loop-again
     same-length
