@@ -14,9 +14,9 @@ use Rattle.four_point.specs.Table.{rowPlaces, mostFacilities, costLimit, row, t
 use Rattle.four_point.proofs.TableLaws.{keeps-metric}
 use Rattle.sheet.specs.Sheet.{haul, instanceBy}
 use Rattle.sheet.specs.Shape.{Shape}
-use Rattle.sheet.specs.Hauls.{Rows, Filled}
+use Rattle.sheet.specs.Hauls.{HasRows, Filled}
 
-pub zero-rows : Rows (replicate (mostFacilities * rowPlaces) 0)
+pub zero-rows : HasRows (replicate (mostFacilities * rowPlaces) 0)
 zero-rows =
     record {
       room = omega (arith, length-replicate {A = ℕ} (mostFacilities * rowPlaces) 0);
@@ -24,7 +24,7 @@ zero-rows =
     }
 
 module _ (s : List ℕ) (m : ℕ) where
-  pub filled-none : {table : List ℕ} → Rows table → Filled s m 0 0 table
+  pub filled-none : {table : List ℕ} → HasRows table → Filled s m 0 0 table
   filled-none rows =
       record { rows = rows; farms-before = λ i q l k. absurd (not-suc-le-zero k); yards-before = λ i l. absurd (not-suc-le-zero l) }
 

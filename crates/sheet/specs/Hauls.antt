@@ -7,12 +7,12 @@ use Rattle.four_point.specs.Table.{rowPlaces, mostFacilities, costLimit, row}
 use Rattle.sheet.specs.Sheet.{haul}
 
 -- a row for every yard that there may be, and all entries below the limit
-pub record Rows (table : List ℕ) : Type 0 where
+pub record HasRows (table : List ℕ) : Type 0 where
   pub room : mostFacilities * rowPlaces ≤ length table
   pub low : (k : ℕ) → getD table k 0 < costLimit
 
 -- the hauls of the first p farms, and those of farm p to the first a yards, stand in the table
 pub record Filled (s : List ℕ) (m p a : ℕ) (table : List ℕ) : Type 0 where
-  pub rows : Rows table
+  pub rows : HasRows table
   pub farms-before : (i q : ℕ) → i < m → q < p → row table i q ≡ haul s m i q
   pub yards-before : (i : ℕ) → i < a → row table i p ≡ haul s m i p

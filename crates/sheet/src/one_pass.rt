@@ -6,7 +6,7 @@ ghost use Prim.Native.Nat.{_+_, _*_, _≤_};
 ghost use lib.ListN.{length};
 ghost use Rattle.model.specs.Loops.{allBelow};
 ghost use Rattle.sheet.specs.Shape.{Shape};
-ghost use Rattle.sheet.specs.Hauls.{Rows, Filled};
+ghost use Rattle.sheet.specs.Hauls.{HasRows, Filled};
 ghost use Rattle.sheet.specs.OnePass.{goodYard, goodFarm, Told};
 use crate::MOST_FARMS;
 use crate::MOST_YARDS;
@@ -24,7 +24,7 @@ pub(crate) enum OnePass {
 
 // The counts of yards and farms, with the hauls put in the table, or that there is some fault.
 pub(crate) fn counts_of(sheet: &[u8], table: &mut [u32]) -> OnePass
-    requires { ⌜ Rows (now table) ⌝ }
+    requires { ⌜ HasRows (now table) ⌝ }
     ensures { λ r. ⌜ Told (now (sheet .entry)) r (now (table .exit)) ⌝ }
 {
     if !form::length_good(sheet) {
@@ -96,7 +96,7 @@ fn good_farm(sheet: &[u8], m: usize, p: usize, table: &mut [u32]) -> bool
 }
 
 fn good_farms(sheet: &[u8], m: usize, n: usize, table: &mut [u32]) -> bool
-    requires { ⌜ Shape (now sheet) m n × Rows (now table) ⌝ }
+    requires { ⌜ Shape (now sheet) m n × HasRows (now table) ⌝ }
     ensures good { λ r. ⌜ r ≡ allBelow n (goodFarm (now (sheet .entry)) m) ⌝ }
     ensures filled { λ r. ⌜ (r ≡ true → Filled (now (sheet .entry)) m n 0 (now (table .exit))) ⌝ }
 {
