@@ -57,10 +57,12 @@ extern "C" {
 uint64_t planner_read(const uint8_t *sheet, size_t sheet_len);
 
 /*
- * The stretch of the sheet that holds a farm's m haul records: its length in bytes, and its byte `at`, which is 0 past its end. The
- * stretch is empty for a farm n or above, and for a sheet that questions 1 to 4 turn down.
+ * The stretch of the sheet that holds a farm's m haul records: its length in bytes, where in the sheet it begins, and its byte `at`, which is
+ * 0 past its end. It is the bytes sheet[from] to sheet[from + len - 1], and lies within the sheet. The stretch is empty for a farm n or above,
+ * and for a sheet that questions 1 to 4 turn down; it then begins at 0.
  */
 size_t planner_farm_len(const uint8_t *sheet, size_t sheet_len, size_t farm);
+size_t planner_farm_from(const uint8_t *sheet, size_t sheet_len, size_t farm);
 uint8_t planner_farm_byte(const uint8_t *sheet, size_t sheet_len, size_t farm, size_t at);
 
 /*

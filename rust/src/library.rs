@@ -10,6 +10,7 @@ mod raw {
     extern "C" {
         pub fn planner_read(sheet: *const u8, sheet_len: usize) -> u64;
         pub fn planner_farm_len(sheet: *const u8, sheet_len: usize, farm: usize) -> usize;
+        pub fn planner_farm_from(sheet: *const u8, sheet_len: usize, farm: usize) -> usize;
         pub fn planner_farm_byte(sheet: *const u8, sheet_len: usize, farm: usize, at: usize) -> u8;
         pub fn planner_price(sheet: *const u8, sheet_len: usize, set: u32, area: *mut u8, area_len: usize) -> u64;
         pub fn planner_open_plan(sheet: *const u8, sheet_len: usize, area: *mut u8, area_len: usize) -> u64;
@@ -32,6 +33,16 @@ pub fn read(sheet: &[u8]) -> Answer<Counts> {
 /// to 4 turn down.
 pub fn farm_len(sheet: &[u8], farm: usize) -> usize {
     unsafe { raw::planner_farm_len(sheet.as_ptr(), sheet.len(), farm) }
+}
+
+/// Where in the sheet a farm's stretch begins, 0 where it is empty.
+pub fn farm_from(sheet: &[u8], farm: usize) -> usize {
+    unsafe { raw::planner_farm_from(sheet.as_ptr(), sheet.len(), farm) }
+}
+
+/// A farm's stretch, the part of the sheet that holds its haul records.
+pub fn farm_hauls(sheet: &[u8], farm: usize) -> &[u8] {
+    &sheet[farm_from(sheet, farm)..][..farm_len(sheet, farm)]
 }
 
 /// Byte `at` of a farm's stretch, 0 past its end.

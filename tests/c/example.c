@@ -45,6 +45,20 @@ static void show_counts(const char *call, uint64_t result)
         printf("%s: yards %zu, farms %zu\n", call, planner_yards(result), planner_farms(result));
 }
 
+/* A farm's hauls where they lie in the sheet; byte by byte they are the same. */
+static void show_farm(size_t farm)
+{
+    const uint8_t *hauls = sheet + planner_farm_from(sheet, sizeof sheet, farm);
+    size_t length = planner_farm_len(sheet, sizeof sheet, farm);
+    printf("farm %zu: bytes %zu", farm, length);
+    for (size_t at = 0; at < length; at += 8)
+        printf(" %u", (unsigned)amount(hauls + at));
+    for (size_t at = 0; at < length; at++)
+        if (planner_farm_byte(sheet, sizeof sheet, farm, at) != hauls[at])
+            printf(" byte %zu differs", at);
+    printf("\n");
+}
+
 /* A refused call leaves the area as it was. */
 static void show_area_after_refusal(void)
 {
@@ -59,14 +73,8 @@ int main(void)
 {
     show_counts("read", planner_read(sheet, sizeof sheet));
     show_counts("read, one byte less", planner_read(sheet, sizeof sheet - 1));
-    printf("farm 1: bytes %zu", planner_farm_len(sheet, sizeof sheet, 1));
-    for (size_t at = 0; at < planner_farm_len(sheet, sizeof sheet, 1); at += 8) {
-        uint8_t haul[8];
-        for (size_t byte = 0; byte < sizeof haul; byte++)
-            haul[byte] = planner_farm_byte(sheet, sizeof sheet, 1, at + byte);
-        printf(" %u", (unsigned)amount(haul));
-    }
-    printf("\n");
+    show_farm(1);
+    show_farm(3);
     show("pricing {0, 2}", planner_price(sheet, sizeof sheet, 1u << 0 | 1u << 2, area, sizeof area));
     show("open plan", planner_open_plan(sheet, sizeof sheet, area, sizeof area));
     show("limited plan, k = 2", planner_limited_plan(sheet, sizeof sheet, 2, area, sizeof area));

@@ -9,11 +9,11 @@ use Rattle.model.specs.Sets.{member}
 use Rattle.model.specs.Instance.{Instance, totalCost}
 use Rattle.model.specs.Plans.{openStart, openSearch, limitedStart, limitedSearch}
 use Rattle.model.proofs.CountLaws.{count-le}
-use Rattle.sheet.specs.Answers.{Answer, accepted, refused, ask, after}
-use Rattle.sheet.specs.Sheet.{instanceOf}
-use Rattle.sheet.specs.Reading.{Counts, counts, reading}
-use Rattle.sheet.proofs.ReadingLaws.{refused-by}
-use Rattle.sheet.proofs.AcceptedLaws.{WithinBounds, instance-is, door, accepts}
+use Rattle.questions.specs.Answers.{Answer, accepted, refused, ask, after}
+use Rattle.questions.specs.Sheet.{instanceOf}
+use Rattle.questions.specs.Reading.{Counts, counts, reading}
+use Rattle.questions.proofs.ReadingLaws.{refused-by}
+use Rattle.questions.proofs.AcceptedLaws.{WithinBounds, instance-is, door, accepts}
 use Rattle.price.specs.Plan.{question9, planSet}
 use Rattle.price.specs.Pricing.{Result, result, Plan, plan, meaning, answer, areaAfter, OfPlan, question8, pricing}
 use Rattle.price.specs.declared.Planned.{Planned}

@@ -2,8 +2,8 @@
 use Prim.Native.Nat.{ℕ, _+_, _*_, _/_, _%_, _^_, _≤_, _<_}
 use mathlib.Core.Path.{_≡_}
 use mathlib.Core.List.{List}
-use Rattle.sheet.specs.Answers.{Answer, accepted, refused}
-use Rattle.sheet.specs.Reading.{Counts}
+use Rattle.questions.specs.Answers.{Answer, accepted, refused}
+use Rattle.questions.specs.Reading.{Counts}
 use Rattle.price.specs.Plan.{planSet}
 use Rattle.price.specs.Pricing.{Result}
 

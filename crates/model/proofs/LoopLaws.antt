@@ -1,7 +1,7 @@
 -- Laws of what loops compute: before the first turn, what a turn adds, and what a loop that leaves early has found.
 -- Loops count by i + 1, so the laws for turns do too.
 use Prim.Native.Nat.{ℕ, zero, suc, _+_, _≤_, _<_}
-use native.Mathlib.Nat.{le-step, lt-suc-self, not-suc-le-zero, eq-or-lt-of-le, le-of-suc-le-suc}
+use native.Mathlib.Nat.{le-refl, le-trans, le-step, lt-suc-self, not-suc-le-zero, eq-or-lt-of-le, le-of-suc-le-suc}
 use native.Mathlib.Numerals.{add-one}
 use native.Mathlib.Omega.{arith}
 use native.Mathlib.Decide.{decLt}
@@ -88,6 +88,22 @@ unfolding leading
 leading-le p zero = omega arith
 leading-le p (suc n) =
     cond-le (eqb (leading n p) n) (cond-le (p n) (omega arith) (omega arith)) (omega (arith, leading-le p n))
+
+-- a run as long as k is not cut short where more is looked at
+leading-grows : (p : ℕ → Bool) (n : ℕ) → leading n p ≤ leading (suc n) p
+unfolding leading
+leading-grows p n =
+    cases (eqb (leading n p) n)
+    (λ e. rw e (cases (p n) (λ h. rw h (omega (arith, leading-le p n))) (λ h. rw h (leading-le p n))))
+    (λ e. rw e (le-refl (leading n p)))
+
+pub leading-reaches : (p : ℕ → Bool) (n k : ℕ) → leading k p ≡ k → k ≤ n → k ≤ leading n p
+leading-reaches p zero k h l = omega arith
+leading-reaches p (suc n) k h l =
+    elim (decLt n k) [
+      | yes b ↦ let same : k ≡ suc n = omega arith in subst (λ (j : ℕ). k ≤ leading j p) same (omega (arith, h))
+      | no g ↦ le-trans (leading-reaches p n k h (omega arith)) (leading-grows p n)
+    ]
 
 -- p holds of each index of the run
 pub leading-holds : (p : ℕ → Bool) (n i : ℕ) → i < leading n p → p i ≡ true

@@ -7,10 +7,10 @@ use price::KIND_MOVES;
 use price::KIND_OPEN;
 use price::KIND_TOTAL;
 use price::Planned;
+use record::Record;
 use sheet::MOST_BYTES;
 use sheet::MOST_FARMS;
 use sheet::MOST_YARDS;
-use sheet::Record;
 
 // One byte more than the longest sheet, so that a longer one is refused and not cut.
 const INPUT: usize = MOST_BYTES + 1;

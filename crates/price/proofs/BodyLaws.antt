@@ -14,9 +14,9 @@ use Rattle.model.proofs.CountLaws.{count-le}
 use Rattle.model.proofs.GapLaws.{NoneFrom, gap}
 use Rattle.sets.specs.Members.{risingBelow}
 use Rattle.sets.proofs.MemberLaws.{Next, passed, passed-none, passed-more, listed-next, listed-last}
-use Rattle.sheet.specs.Records.{recordOf, splice}
-use Rattle.sheet.specs.Sheet.{fee, instanceBy}
-use Rattle.sheet.proofs.SpliceLaws.{length-bytes, splice-turn}
+use Rattle.record.specs.Records.{recordOf, splice}
+use Rattle.questions.specs.Sheet.{fee, instanceBy}
+use Rattle.record.proofs.SpliceLaws.{length-bytes, splice-turn}
 use Rattle.price.specs.Plan.{openRecord, farmRecord}
 use Rattle.price.proofs.CostLaws.{summed-same, fees-sum, hauls-sum}
 use Rattle.price.proofs.WriteLaws.{Filled, filled-none, filled-more, filled-same}

@@ -8,11 +8,11 @@ use Rattle.model.specs.Loops.{on, sum}
 use Rattle.model.specs.Instance.{nearest, openingCost, serviceCost}
 use Rattle.model.proofs.SumLaws.{Summed}
 use Rattle.model.proofs.CostLaws.{service-once}
-use Rattle.sheet.specs.declared.record.Record.{Record}
-use Rattle.sheet.specs.Records.{wholeRecordAt}
-use Rattle.sheet.specs.Sheet.{fee, instanceBy}
-use Rattle.sheet.specs.Shape.{Shape}
-use Rattle.sheet.proofs.RecordLaws.{whole}
+use Rattle.record.specs.declared.Record.{Record}
+use Rattle.record.specs.Records.{wholeRecordAt}
+use Rattle.questions.specs.Sheet.{fee, instanceBy}
+use Rattle.questions.specs.Shape.{Shape}
+use Rattle.record.proofs.RecordLaws.{whole}
 
 -- terms that are 0 need no turn
 pub summed-same : (f : ℕ → ℕ) (total i k : ℕ) → i ≤ k → sum k f ≡ sum i f → Summed f total i → Summed f total k

@@ -9,8 +9,7 @@ use mathlib.Core.Bool.{Bool, true, false, cond, not, _&&_, _||_, and-false, or-t
 use mathlib.Core.List.{List}
 use borrow.Author.Tests.{lt-ltb, le-ltb, leb-true, leb-false}
 use lib.Dec.{leb, ltb}
-use lib.ListN.{length, getD, take, drop, length-drop}
-use lib.Seq.{getD-take, getD-drop, length-take-le}
+use lib.ListN.{length, getD, take, drop}
 use Rattle.model.specs.Least.{any, least, arg}
 use Rattle.model.specs.Sets.{member}
 use Rattle.model.specs.Instance.{nearest, assigned}
@@ -20,12 +19,12 @@ use Rattle.model.proofs.GapLaws.{NoneFrom, any-gap, least-gap, arg-gap}
 use Rattle.sets.proofs.SetLaws.{none-above}
 use Rattle.sets.specs.Members.{risingBelow}
 use Rattle.sets.proofs.MemberLaws.{Next, Last, passed, passed-none, passed-more, listed-next, listed-last}
-use Rattle.sheet.specs.declared.record.Record.{Record}
-use Rattle.sheet.specs.Records.{recordAt, wholeRecordAt}
-use Rattle.sheet.specs.Sheet.{records, haul, instanceBy}
-use Rattle.sheet.specs.Shape.{Shape}
-use Rattle.sheet.specs.Reading.{stretch}
-use Rattle.sheet.proofs.RecordLaws.{whole}
+use Rattle.record.specs.declared.Record.{Record}
+use Rattle.record.specs.Records.{wholeRecordAt}
+use Rattle.questions.specs.Sheet.{records, haul, instanceBy}
+use Rattle.questions.specs.Shape.{Shape}
+use Rattle.sheet.specs.Stretch.{stretch}
+use Rattle.record.proofs.RecordLaws.{eight-bytes}
 use Rattle.sheet.proofs.FarmLaws.{stretch-length, stretch-record}
 use Rattle.price.specs.declared.nearest.Nearest.{Nearest}
 use Rattle.price.specs.Nearest.{near, nearestBelow, closer, amountAt, nearestOn}
@@ -144,19 +143,8 @@ module _ (set : ℕ) (v : ℕ → ℕ) where
 -- the amount of a record that is read as a part of the bytes
 pub part-amount : (bytes part : List ℕ) (i : ℕ) (r : Record) → 8 * i + 8 ≤ length bytes → part ≡ take (8 * i + 8 - 8 * i) (drop (8 * i) bytes)
     → r ≡ wholeRecordAt part 0 → r .amount ≡ amountAt bytes i
-unfolding amountAt recordAt
-part-amount bytes part i r room cut er =
-    let size : length part ≡ 8 = ap length e ∙ length-take-le 8 (drop (8 * i) bytes) (omega (arith, length-drop (8 * i) bytes)) in
-    let read : r ≡ recordAt part 0 = er ∙ whole part 0 (omega arith) in
-    ap (λ (x : Record). x .amount) read ∙ rw (byte 4 (omega arith), byte 5 (omega arith), byte 6 (omega arith), byte 7 (omega arith))
-  where
-    e : part ≡ take 8 (drop (8 * i) bytes)
-    e = let whole-record : 8 * i + 8 - 8 * i ≡ 8 = omega arith in cut ∙ ap (λ (n : ℕ). take n (drop (8 * i) bytes)) whole-record
-
-    byte : (k : ℕ) → k < 8 → getD part (8 * 0 + k) 0 ≡ getD bytes (8 * i + k) 0
-    byte k l =
-        ap (λ (s : List ℕ). getD s (8 * 0 + k) 0) e ∙ getD-take 8 (drop (8 * i) bytes) (8 * 0 + k) 0 (omega arith)
-        ∙ getD-drop (8 * i) bytes (8 * 0 + k) 0 ∙ ap (λ x. getD bytes x 0) (omega arith)
+unfolding amountAt
+part-amount bytes part i r room cut read = ap (λ (x : Record). x .amount) (read ∙ eight-bytes bytes part i room cut)
 
 -- ---- the loop over the listed yards of a set on a stretch of the sheet
 

@@ -9,12 +9,12 @@ use lib.Dec.{leb}
 use Rattle.model.specs.Sets.{member}
 use Rattle.model.specs.Instance.{Instance, totalCost}
 use Rattle.model.proofs.Bools.{and-right}
-use Rattle.sheet.specs.Records.{splice}
-use Rattle.sheet.specs.Answers.{Answer, accepted}
-use Rattle.sheet.specs.Sheet.{yards, instanceOf}
-use Rattle.sheet.specs.Reading.{reading}
-use Rattle.sheet.proofs.ReadingLaws.{same-result, apart, asked, read-first}
-use Rattle.sheet.proofs.AcceptedLaws.{accepts, door, facilities-are}
+use Rattle.record.specs.Records.{splice}
+use Rattle.questions.specs.Answers.{Answer, accepted}
+use Rattle.questions.specs.Sheet.{yards, instanceOf}
+use Rattle.questions.specs.Reading.{reading}
+use Rattle.questions.proofs.ReadingLaws.{same-result, apart, asked, read-first}
+use Rattle.questions.proofs.AcceptedLaws.{accepts, door, facilities-are}
 use Rattle.price.specs.Plan.{planBytes, question9, planSet}
 use Rattle.price.specs.Pricing.{Result, Plan, plan, meaning, answer, areaAfter, OfPlan, question8, pricing, SetKept}
 use Rattle.price.specs.declared.Planned.{Planned}

@@ -14,13 +14,13 @@ use Rattle.model.proofs.Bools.{cases, and-left, and-right}
 use Rattle.model.proofs.SumLaws.{on-le}
 use Rattle.model.proofs.CountLaws.{count-le}
 use Rattle.model.proofs.PlaceLaws.{few-places}
-use Rattle.sheet.specs.Records.{recordOf, recordAt, wholeRecordAt, bytesOf, splice}
-use Rattle.sheet.specs.declared.record.Record.{Record}
-use Rattle.sheet.specs.Sheet.{fee, instanceBy}
-use Rattle.sheet.specs.Shape.{Shape}
-use Rattle.sheet.specs.Reading.{stretch}
-use Rattle.sheet.proofs.RecordLaws.{whole}
-use Rattle.sheet.proofs.SpliceLaws.{length-bytes, splice-turn}
+use Rattle.record.specs.Records.{recordOf, recordAt, wholeRecordAt, bytesOf, splice}
+use Rattle.record.specs.declared.Record.{Record}
+use Rattle.questions.specs.Sheet.{fee, instanceBy}
+use Rattle.questions.specs.Shape.{Shape}
+use Rattle.sheet.specs.Stretch.{stretch}
+use Rattle.record.proofs.RecordLaws.{whole}
+use Rattle.record.proofs.SpliceLaws.{length-bytes, splice-turn}
 use Rattle.price.specs.declared.nearest.Nearest.{Nearest}
 use Rattle.price.specs.Nearest.{nearestOn}
 use Rattle.price.specs.Plan.{openRecord, farmRecord, totalRecord, movesRecord, planBytes, question9, planFits, writing}

@@ -17,9 +17,9 @@ use Rattle.model.proofs.Bools.{cases}
 use Rattle.model.proofs.SumLaws.{sum-cong}
 use Rattle.model.proofs.LeastLaws.{any-cong, any-add, any-none, any-one}
 use Rattle.model.proofs.SetLaws.{member-below, member-sum}
-use Rattle.sheet.specs.Records.{recordAt, bytesOf, splice}
-use Rattle.sheet.specs.declared.record.Record.{Record}
-use Rattle.sheet.proofs.SpliceLaws.{length-bytes, splice-front}
+use Rattle.record.specs.Records.{recordAt, bytesOf, splice}
+use Rattle.record.specs.declared.Record.{Record}
+use Rattle.record.proofs.SpliceLaws.{length-bytes, splice-front}
 use Rattle.price.specs.Plan.{openRecord, farmRecord, totalRecord, movesRecord, planBytes, opensAt, planSet}
 
 -- ---- what whole records show of one yard

@@ -12,14 +12,14 @@ use Rattle.model.specs.Sets.{member}
 use Rattle.model.specs.Instance.{totalCost}
 use Rattle.model.proofs.Bools.{fails, and-left, and-right, and-both}
 use Rattle.model.proofs.SetLaws.{some-member, member-some, member-below, below-pow}
-use Rattle.sheet.specs.Records.{splice}
-use Rattle.sheet.specs.Answers.{Answer, accepted, refused}
-use Rattle.sheet.specs.Sheet.{instanceBy, instanceOf}
-use Rattle.sheet.specs.Shape.{Shape}
-use Rattle.sheet.specs.Reading.{counts, reading}
-use Rattle.sheet.proofs.ReadingLaws.{same-result, apart}
-use Rattle.sheet.proofs.AcceptedLaws.{shape-of, instance-is, accepts, door}
-use Rattle.sheet.proofs.CostBounds.{total-fits}
+use Rattle.record.specs.Records.{splice}
+use Rattle.questions.specs.Answers.{Answer, accepted, refused}
+use Rattle.questions.specs.Sheet.{instanceBy, instanceOf}
+use Rattle.questions.specs.Shape.{Shape}
+use Rattle.questions.specs.Reading.{counts, reading}
+use Rattle.questions.proofs.ReadingLaws.{same-result, apart}
+use Rattle.questions.proofs.AcceptedLaws.{shape-of, instance-is, accepts, door}
+use Rattle.questions.proofs.CostBounds.{total-fits}
 use Rattle.price.specs.Plan.{planBytes, question9, writing}
 use Rattle.price.specs.Pricing.{Result, result, Plan, plan, meaning, answer, areaAfter, question8, pricing}
 use Rattle.price.specs.declared.Planned.{Planned}

@@ -5,8 +5,8 @@ use mathlib.Core.List.{List}
 use lib.Dec.{ltb}
 use Rattle.model.specs.Least.{any, least, arg}
 use Rattle.model.specs.Sets.{member}
-use Rattle.sheet.specs.Records.{recordAt}
-use Rattle.sheet.specs.Sheet.{records}
+use Rattle.record.specs.Records.{recordAt}
+use Rattle.questions.specs.Sheet.{records}
 use Rattle.price.specs.declared.nearest.Nearest.{Nearest}
 
 abbrev pub near : Bool → ℕ → ℕ → Nearest

@@ -8,8 +8,8 @@ use Rattle.model.specs.Loops.{on, sum, join}
 use Rattle.model.specs.Least.{any}
 use Rattle.model.specs.Sets.{count, member}
 use Rattle.model.specs.Instance.{Instance, nearest, assigned}
-use Rattle.sheet.specs.Records.{recordOf, recordAt, bytesOf}
-use Rattle.sheet.specs.Sheet.{instanceBy}
+use Rattle.record.specs.Records.{recordOf, recordAt, bytesOf}
+use Rattle.questions.specs.Sheet.{instanceBy}
 
 -- "One of kind 4F hex for each open yard by number (byte 1 yard, amount its fee)."
 unfoldable pub openRecord : Instance → ℕ → ℕ → List ℕ

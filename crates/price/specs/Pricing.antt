@@ -7,10 +7,10 @@ use lib.ListN.{length}
 use lib.Dec.{leb, ltb}
 use Rattle.model.specs.Sets.{member}
 use Rattle.model.specs.Instance.{Instance, totalCost}
-use Rattle.sheet.specs.Records.{splice}
-use Rattle.sheet.specs.Answers.{Answer, accepted, refused, ask, after}
-use Rattle.sheet.specs.Sheet.{instanceOf}
-use Rattle.sheet.specs.Reading.{reading}
+use Rattle.record.specs.Records.{splice}
+use Rattle.questions.specs.Answers.{Answer, accepted, refused, ask, after}
+use Rattle.questions.specs.Sheet.{instanceOf}
+use Rattle.questions.specs.Reading.{reading}
 use Rattle.price.specs.Plan.{planBytes, question9, planSet}
 use Rattle.price.specs.declared.Planned.{Planned}
 use Rattle.price.specs.declared.Planned.the-variants.{Written, Refused}

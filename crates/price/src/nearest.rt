@@ -3,9 +3,9 @@ ghost use mathlib.Core.Path.{_≡_};
 ghost use Prim.Native.Nat.{_+_, _*_, _≤_, min};
 ghost use lib.ListN.{length};
 ghost use Rattle.sets.specs.Members.{risingBelow};
-ghost use Rattle.sheet.specs.Sheet.{records};
+ghost use Rattle.questions.specs.Sheet.{records};
 ghost use Rattle.price.specs.Nearest.{amountAt, nearestOn};
-use sheet::Record;
+use record::Record;
 
 // What the part of a number counts for that begins at bit 32.
 const BIT_32: u64 = 4294967296;

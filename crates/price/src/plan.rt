@@ -8,14 +8,14 @@ ghost use Rattle.model.specs.Loops.{join};
 ghost use Rattle.model.specs.Sets.{count, member};
 ghost use Rattle.model.specs.Instance.{nearest, openingCost, serviceCost, totalCost};
 ghost use Rattle.sets.specs.Members.{risingBelow};
-ghost use Rattle.sheet.specs.Records.{recordOf, bytesOf, splice};
-ghost use Rattle.sheet.specs.Sheet.{fee, instanceBy};
-ghost use Rattle.sheet.specs.Shape.{Shape};
+ghost use Rattle.record.specs.Records.{recordOf, bytesOf, splice};
+ghost use Rattle.questions.specs.Sheet.{fee, instanceBy};
+ghost use Rattle.questions.specs.Shape.{Shape};
 ghost use Rattle.price.specs.Plan.{openRecord, farmRecord, movesRecord, planFits, writing};
 use crate::nearest::nearest_of;
+use record::Record;
 use sheet::MOST_FARMS;
 use sheet::MOST_YARDS;
-use sheet::Record;
 
 pub const KIND_OPEN: u8 = 0x4F;
 

@@ -9,11 +9,11 @@ use Rattle.model.specs.Instance.{metric, fourPointBPQ, fourPointPQ, fourPointQ,
 use Rattle.model.specs.Neighbours.{addAt, adds, dropAt, drops, swapAt, swapsOut, swaps, addDropSwap}
 use Rattle.model.specs.Search.{better, best, next, descend, search}
 use Rattle.model.specs.Plans.{openCost, openStart, openSearch, limitedCost, limitedStart, limitedSearch}
-use Rattle.sheet.specs.Records.{recordOf, recordAt, bytesOf, wellFormed}
-use Rattle.sheet.specs.Answers.{Answer, accepted, refused}
-use Rattle.sheet.specs.Sheet.{isYard, yards, hauls, farms, fee, haul, instanceOf, instanceBy}
-use Rattle.sheet.specs.Questions.{question1, question2, wellFormedAt, question3, numbered, noYardAfter, question4, haulInPlace, farmInPlace, question5, amountWithin, question6}
-use Rattle.sheet.specs.Reading.{Counts, counts, form, reading}
+use Rattle.record.specs.Records.{recordOf, recordAt, bytesOf}
+use Rattle.questions.specs.Answers.{Answer, accepted, refused}
+use Rattle.questions.specs.Sheet.{isYard, yards, hauls, farms, fee, haul, instanceOf, instanceBy}
+use Rattle.questions.specs.Questions.{question1, question2, wellFormed, wellFormedAt, question3, numbered, noYardAfter, question4, haulInPlace, farmInPlace, question5, amountWithin, question6}
+use Rattle.questions.specs.Reading.{Counts, counts, form, reading}
 use Rattle.price.specs.Plan.{openRecord, farmRecord, totalRecord, movesRecord, planBytes, question9}
 use Rattle.price.specs.Pricing.{Plan, question8, pricing}
 use Rattle.search.specs.Settling.{settledAt, openEnd, limitedEnd, planOf}

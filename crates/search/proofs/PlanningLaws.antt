@@ -12,14 +12,14 @@ use Rattle.model.specs.Search.{search}
 use Rattle.model.specs.Plans.{openCost, openSearch, limitedCost, limitedSearch}
 use Rattle.model.proofs.Bools.{and-left, and-right}
 use Rattle.model.proofs.SearchLaws.{search-ends}
-use Rattle.sheet.specs.Records.{splice}
-use Rattle.sheet.specs.Answers.{Answer, accepted, refused, after}
-use Rattle.sheet.specs.Sheet.{instanceBy, instanceOf}
-use Rattle.sheet.specs.Shape.{Shape}
-use Rattle.sheet.specs.Reading.{counts, reading}
-use Rattle.sheet.proofs.ReadingLaws.{same-result, asked, read-first}
-use Rattle.sheet.proofs.AcceptedLaws.{instance-is, accepts, door}
-use Rattle.sheet.proofs.CostBounds.{total-fits, service-fits}
+use Rattle.record.specs.Records.{splice}
+use Rattle.questions.specs.Answers.{Answer, accepted, refused, after}
+use Rattle.questions.specs.Sheet.{instanceBy, instanceOf}
+use Rattle.questions.specs.Shape.{Shape}
+use Rattle.questions.specs.Reading.{counts, reading}
+use Rattle.questions.proofs.ReadingLaws.{same-result, asked, read-first}
+use Rattle.questions.proofs.AcceptedLaws.{instance-is, accepts, door}
+use Rattle.questions.proofs.CostBounds.{total-fits, service-fits}
 use Rattle.price.specs.Plan.{question9, writing}
 use Rattle.price.specs.Pricing.{Plan, result, answer, areaAfter}
 use Rattle.price.proofs.PricingLaws.{makes, writes-of}

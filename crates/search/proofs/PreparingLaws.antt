@@ -15,7 +15,7 @@ use Rattle.model.proofs.Bools.{clash, and-both}
 use Rattle.model.proofs.SetLaws.{member-some}
 use Rattle.model.proofs.LeastLaws.{any-counted}
 use Rattle.model.proofs.PlanLaws.{limited-start, same-start}
-use Rattle.sheet.specs.Sheet.{instanceBy}
+use Rattle.questions.specs.Sheet.{instanceBy}
 use Rattle.engine.specs.Bounds.{noLimit}
 use Rattle.engine.specs.Tables.{tabled, tableCost, goodTables}
 use Rattle.engine.specs.Moves.{neighboursBy}

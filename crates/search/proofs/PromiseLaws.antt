@@ -13,9 +13,9 @@ use Rattle.model.proofs.LeastLaws.{arg-least}
 use Rattle.model.proofs.SearchLaws.{search-ends}
 use Rattle.model.proofs.PlanLaws.{open-plan-keeps, limited-plan-keeps}
 use Rattle.bounds.proofs.Searches.{open-plan-bound, open-plan-thrice, limited-plan-bound}
-use Rattle.sheet.specs.Answers.{accepted}
-use Rattle.sheet.specs.Sheet.{yards, instanceOf, instanceBy}
-use Rattle.sheet.proofs.AcceptedLaws.{WithinBounds, door, accepts, facilities-are}
+use Rattle.questions.specs.Answers.{accepted}
+use Rattle.questions.specs.Sheet.{yards, instanceOf, instanceBy}
+use Rattle.questions.proofs.AcceptedLaws.{WithinBounds, door, accepts, facilities-are}
 use Rattle.price.specs.Pricing.{Plan, meaning, answer, areaAfter, OfPlan}
 use Rattle.price.specs.declared.Planned.{Planned}
 use Rattle.price.proofs.OfPlanLaws.{PlanOf, of-plan}

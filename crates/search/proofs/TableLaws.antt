@@ -13,9 +13,10 @@ use Rattle.model.specs.Instance.{openingCost, serviceCost, totalCost}
 use Rattle.model.specs.Plans.{openCost, limitedCost}
 use Rattle.model.proofs.SumLaws.{sum-cong, sum-zero, on-zero}
 use Rattle.model.proofs.CostLaws.{same-service, same-opening}
-use Rattle.sheet.specs.Records.{recordAt}
-use Rattle.sheet.specs.Sheet.{fee, haul, instanceBy}
-use Rattle.sheet.proofs.AcceptedLaws.{Accepted}
+use Rattle.record.specs.Records.{recordAt}
+use Rattle.questions.specs.Sheet.{fee, haul, instanceBy}
+use Rattle.questions.specs.Bounds.{mostFee, mostHaul}
+use Rattle.questions.proofs.AcceptedLaws.{HasAmounts}
 use Rattle.price.specs.Nearest.{amountAt}
 use Rattle.engine.specs.Tables.{tabled, tableCost, goodTables}
 use Rattle.engine.specs.declared.Neighbourhood.{Neighbourhood}
@@ -45,19 +46,19 @@ row-place m n k l = elim (decLt 0 m) [
   | no none ↦ let e : m ≡ 0 = omega arith in absurd (not-suc-le-zero (subst (λ (x : ℕ). k < x) (ap (λ (x : ℕ). n * x) e ∙ mul-zero n) l))
 ]
 
-module _ (s : List ℕ) (m n : ℕ) (all : Accepted s m n) where
-  fees-within : (moves : Neighbourhood) (opening : List ℕ) → OpeningBy moves s m opening → (i : ℕ) → i < m → getD opening i 0 ≤ 50000000
+module _ (s : List ℕ) (m n : ℕ) (all : HasAmounts s m n) where
+  fees-within : (moves : Neighbourhood) (opening : List ℕ) → OpeningBy moves s m opening → (i : ℕ) → i < m → getD opening i 0 ≤ mostFee
   unfolding fee
   fees-within AddDropSwap opening held i l =
-      subst (λ (x : ℕ). x ≤ 50000000) (ap (λ (k : ℕ). recordAt s k .amount) (sym (zero-add i)) ∙ sym (held i l)) (all .fees i l)
+      subst (λ (x : ℕ). x ≤ mostFee) (ap (λ (k : ℕ). recordAt s k .amount) (sym (zero-add i)) ∙ sym (held i l)) (all .fees i l)
   fees-within Swap opening free i l = omega (arith, free i l)
 
-  hauls-within : (service : List ℕ) → Holds s m (n * m) service → (k : ℕ) → k < n * m → getD service k 0 ≤ 1000000
+  hauls-within : (service : List ℕ) → Holds s m (n * m) service → (k : ℕ) → k < n * m → getD service k 0 ≤ mostHaul
   unfolding haul
   hauls-within service held k l =
       let at = row-place m n k l in
       let place : m + k / m * m + k % m ≡ m + k = omega (arith, at .2) in
-      subst (λ (x : ℕ). x ≤ 1000000) (ap (λ (i : ℕ). recordAt s i .amount) place ∙ sym (held k l)) (all .hauls-within (k % m) (k / m) (at .1) (at .0))
+      subst (λ (x : ℕ). x ≤ mostHaul) (ap (λ (i : ℕ). recordAt s i .amount) place ∙ sym (held k l)) (all .hauls-within (k % m) (k / m) (at .1) (at .0))
 
   pub tables-good : (moves : Neighbourhood) (opening service : List ℕ) → m ≤ length opening → n * m ≤ length service
       → OpeningBy moves s m opening → Holds s m (n * m) service → goodTables m n opening service ≡ true

@@ -4,9 +4,9 @@ use Prim.Native.Nat.{ℕ}
 use mathlib.Core.List.{List}
 use Rattle.model.specs.Instance.{Instance}
 use Rattle.model.specs.Plans.{limitedStart}
-use Rattle.sheet.specs.Answers.{Answer, accepted, ask, after}
-use Rattle.sheet.specs.Sheet.{instanceOf}
-use Rattle.sheet.specs.Reading.{reading}
+use Rattle.questions.specs.Answers.{Answer, accepted, ask, after}
+use Rattle.questions.specs.Sheet.{instanceOf}
+use Rattle.questions.specs.Reading.{reading}
 use Rattle.price.specs.Plan.{question9}
 use Rattle.price.specs.Pricing.{Plan}
 use Rattle.engine.specs.declared.Neighbourhood.{Neighbourhood}

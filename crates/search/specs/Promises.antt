@@ -11,7 +11,7 @@ use Rattle.model.specs.Instance.{Instance, openingCost, serviceCost, totalCost}
 use Rattle.model.specs.Neighbours.{swaps, addDropSwap}
 use Rattle.model.specs.Search.{NoLower}
 use Rattle.model.specs.Plans.{openCost, limitedCost}
-use Rattle.sheet.specs.Sheet.{yards, instanceOf}
+use Rattle.questions.specs.Sheet.{yards, instanceOf}
 use Rattle.price.specs.Pricing.{OfPlan}
 use Rattle.price.specs.declared.Planned.{Planned}
 

@@ -4,7 +4,7 @@ ghost use Prim.Native.Nat.{_+_, _*_, _≤_};
 ghost use lib.ListN.{length};
 ghost use Rattle.price.specs.Nearest.{amountAt};
 ghost use Rattle.search.specs.Tables.{Holds};
-use sheet::Record;
+use record::Record;
 
 // The amount of record k, read as a part of the sheet: of eight bytes the compiler knows that they hold a record.
 fn amount_at(sheet: &[u8], k: usize) -> u32

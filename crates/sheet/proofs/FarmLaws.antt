@@ -1,42 +1,24 @@
 -- A farm's stretch of a sheet that questions 1 to 4 pass is exactly the farm's m haul records; any other stretch is empty.
 use Prim.Native.Nat.{ℕ, _+_, _*_, _≤_, _<_}
+use native.Mathlib.Nat.{mul-zero}
 use native.Mathlib.Omega.{arith}
-use mathlib.Core.Path.{_≡_, ap, _∙_}
+use native.Mathlib.Decide.{decLt}
+use mathlib.Core.Path.{_≡_, refl, sym, ap, _∙_}
 use mathlib.Core.List.{List, []}
 use borrow.Author.Tests.{lt-ltb, le-ltb}
-use lib.ListN.{length, getD, take, drop, length-drop}
-use lib.Seq.{getD-take, getD-drop, length-take-le}
+use lib.ListN.{length, take, drop, length-drop}
+use lib.Seq.{length-take-le}
 use Rattle.model.proofs.PlaceLaws.{row-within}
-use Rattle.sheet.specs.Records.{recordOf, recordAt}
-use Rattle.sheet.specs.Answers.{accepted, refused}
-use Rattle.sheet.specs.Sheet.{place, haul}
-use Rattle.sheet.specs.Shape.{Shape}
-use Rattle.sheet.specs.Reading.{counts, form, stretch, stretchBy, farmHauls}
+use Rattle.record.specs.Records.{recordOf, recordAt}
+use Rattle.record.proofs.RecordLaws.{part-record}
+use Rattle.questions.specs.Bounds.{haulKind}
+use Rattle.questions.specs.Answers.{Answer, accepted, refused}
+use Rattle.questions.specs.Sheet.{place, haul}
+use Rattle.questions.specs.Shape.{Shape}
+use Rattle.questions.specs.Reading.{Counts, counts, form}
+use Rattle.sheet.specs.Stretch.{stretch, stretchBy, farmHauls, fromBy, farmFrom}
 use Rattle.sheet.proofs.StretchLaws.{stretch-is}
-use Rattle.sheet.proofs.AcceptedLaws.{has-form, shape-of}
-
--- a byte of a part of the bytes, and a record of it, is that at its place in the whole
-
-part-byte : (s : List ℕ) (k m i j : ℕ) → i < 8 * m → 8 * k + i ≡ j → getD (take (8 * m) (drop (8 * k) s)) i 0 ≡ getD s j 0
-part-byte s k m i j l e =
-    getD-take (8 * m) (drop (8 * k) s) i 0 l ∙ getD-drop (8 * k) s i 0 ∙ ap (λ x. getD s x 0) e
-
-part-record : (s : List ℕ) (k m a : ℕ) → a < m → recordAt (take (8 * m) (drop (8 * k) s)) a ≡ recordAt s (k + a)
-unfolding recordAt
-part-record s k m a below =
-    rw (
-      part-byte s k m (8 * a) (8 * (k + a)) (omega arith) (omega arith),
-      byte 1 (omega arith),
-      byte 2 (omega arith),
-      byte 3 (omega arith),
-      byte 4 (omega arith),
-      byte 5 (omega arith),
-      byte 6 (omega arith),
-      byte 7 (omega arith),
-    )
-  where
-    byte : (b : ℕ) → b < 8 → getD (take (8 * m) (drop (8 * k) s)) (8 * a + b) 0 ≡ getD s (8 * (k + a) + b) 0
-    byte b l = part-byte s k m (8 * a + b) (8 * (k + a) + b) (omega arith) (omega arith)
+use Rattle.questions.proofs.AcceptedLaws.{has-form, shape-of}
 
 -- ---- for callers that have read the sheet
 
@@ -67,7 +49,7 @@ module _ (s : List ℕ) (m n p : ℕ) (h : form s ≡ accepted (counts m n)) whe
     pub farm-length : length (farmHauls s p) ≡ 8 * m
     farm-length = rw farm-stretch (stretch-length s m n p (shape-of (has-form s m n h)) below)
 
-    pub farm-record : (a : ℕ) → a < m → recordAt (farmHauls s p) a ≡ recordOf 0x48 a p 0 (haul s m a p)
+    pub farm-record : (a : ℕ) → a < m → recordAt (farmHauls s p) a ≡ recordOf haulKind a p 0 (haul s m a p)
     farm-record a la =
         let f = has-form s m n h in
         rw farm-stretch (stretch-record s m n p (shape-of f) below a la ∙ f .haul-record a p la below)
@@ -75,3 +57,43 @@ module _ (s : List ℕ) (m n p : ℕ) (h : form s ≡ accepted (counts m n)) whe
 pub farm-refused : (s : List ℕ) (k p : ℕ) → form s ≡ refused k → farmHauls s p ≡ []
 unfolding farmHauls
 farm-refused s k p h = ap (λ f. stretchBy f s p) h
+
+-- ---- where it begins
+
+-- From there on as many bytes as it has lie within the sheet, and they are the farm's hauls. Its length tells where that is: so many bytes
+-- for the yards, and so many for each farm before it.
+pub record BeginsAt (s : List ℕ) (p from : ℕ) : Type 0 where
+  pub inside : from + length (farmHauls s p) ≤ length s
+  pub part : take (length (farmHauls s p)) (drop from s) ≡ farmHauls s p
+  pub by-length : from ≡ length (farmHauls s p) + p * length (farmHauls s p)
+
+empty-begins : (s : List ℕ) (p from : ℕ) → farmHauls s p ≡ [] → from ≡ 0 → BeginsAt s p from
+empty-begins s p from none start =
+    record {
+      inside = rw (none, start) (omega arith);
+      part = rw none refl;
+      by-length = rw (none, start, mul-zero p) refl;
+    }
+
+pub farm-begins : (s : List ℕ) (p : ℕ) → BeginsAt s p (farmFrom s p)
+unfolding farmFrom
+farm-begins s p = go (form s) refl
+  where
+    go : (f : Answer Counts) → form s ≡ f → BeginsAt s p (farmFrom s p)
+    go (refused k) e = empty-begins s p (farmFrom s p) (farm-refused s k p e) (ap (λ f. fromBy f p) e)
+    go (accepted c) e =
+        let m = c .yards in
+        elim (decLt p (c .farms)) [
+          | no above ↦
+              empty-begins s p (farmFrom s p) (farm-none s m (c .farms) p e (omega arith))
+              (ap (λ f. fromBy f p) e ∙ rw (le-ltb p (c .farms) (omega arith)))
+          | yes below ↦
+              let shape = shape-of (has-form s m (c .farms) e) in
+              let from : farmFrom s p ≡ 8 * (m + p * m) = ap (λ f. fromBy f p) e ∙ rw (lt-ltb p (c .farms) below) in
+              let long = farm-length s m (c .farms) p e below in
+              record {
+                inside = rw (from, long) (omega (arith, row-within m (c .farms) p below, shape .room));
+                part = rw (from, long) (sym (farm-stretch s m (c .farms) p e below ∙ part-of s m (c .farms) p shape below));
+                by-length = rw (from, long) (omega arith);
+              }
+        ]

@@ -12,8 +12,8 @@ use Rattle.model.proofs.PlaceLaws.{each-set, same-most}
 use Rattle.model.proofs.CostLaws.{same-metric}
 use Rattle.four_point.specs.Table.{rowPlaces, mostFacilities, costLimit, row, tableInstance, keepsRule}
 use Rattle.four_point.proofs.TableLaws.{keeps-metric}
-use Rattle.sheet.specs.Sheet.{haul, instanceBy}
-use Rattle.sheet.specs.Shape.{Shape}
+use Rattle.questions.specs.Sheet.{haul, instanceBy}
+use Rattle.questions.specs.Shape.{Shape}
 use Rattle.sheet.specs.Hauls.{HasRows, Filled}
 
 pub zero-rows : HasRows (replicate (mostFacilities * rowPlaces) 0)

@@ -1,14 +1,7 @@
-pub mod RecordLaws
-pub mod SpliceLaws
+-- StretchLaws, FarmLaws: a farm's stretch. HaulLaws: the table of which question 6 is asked. OnePassLaws: what the tests of the pass say of a
+-- sheet. ToldLaws: what the pass tells.
 pub mod StretchLaws
-pub mod QuestionLaws
-pub mod ReadingLaws
-pub mod FormLaws
-pub mod ShapeLaws
-pub mod HaulLaws
-pub mod AcceptedLaws
 pub mod FarmLaws
+pub mod HaulLaws
 pub mod OnePassLaws
 pub mod ToldLaws
-pub mod CostBounds
-pub mod Limits

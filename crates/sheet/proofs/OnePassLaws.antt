@@ -1,25 +1,26 @@
 -- The one pass: a sheet on which every record is the one of its place passes questions 2 to 5.
 use Prim.Native.Nat.{ℕ, zero, _+_, _-_, _*_, _/_, _%_, _≤_, _<_}
-use native.Mathlib.Nat.{zero-add, mod-lt, mod-add-div', div-lt-iff-lt-mul}
+use native.Mathlib.Nat.{not-suc-le-zero, zero-add, mod-lt, mod-add-div', div-lt-iff-lt-mul}
 use native.Mathlib.Decide.{decLt}
 use native.Mathlib.Omega.{arith}
-use mathlib.Core.Path.{_≡_, sym, ap, subst, _∙_}
-use mathlib.Core.Bool.{Bool, true}
+use mathlib.Core.Path.{_≡_, refl, sym, ap, subst, _∙_}
+use mathlib.Core.Bool.{Bool, true, false, cond, _&&_, and-false}
 use mathlib.Core.List.{List}
-use borrow.Author.Tests.{eq-eqb, le-leb, eqb-true, leb-true}
-use lib.Dec.{eqb}
-use Rattle.model.specs.Loops.{allBelow}
+use borrow.Author.Tests.{eq-eqb, le-leb, lt-leb, eqb-true, leb-true}
+use lib.Dec.{eqb, leb}
+use Rattle.model.specs.Loops.{allBelow, leading}
 use Rattle.model.proofs.Bools.{and-left, and-right, and-both}
-use Rattle.model.proofs.LoopLaws.{all-at, all-from}
+use Rattle.model.proofs.LoopLaws.{all-at, all-from, all-stops, leading-reaches}
 use Rattle.four_point.specs.Table.{costLimit}
-use Rattle.sheet.specs.declared.record.Record.{Record}
-use Rattle.sheet.specs.Records.{recordAt, wellFormed}
-use Rattle.sheet.specs.Sheet.{records, isYard, yards, hauls, farms, place, haul}
-use Rattle.sheet.specs.Questions.{question1, question2, question3, question4, question5, wellFormedAt, numbered, noYardAfter, haulInPlace, farmInPlace, amountWithin}
-use Rattle.sheet.specs.OnePass.{recordIs, goodYard, goodHaul, goodFarm, Passes}
-use Rattle.sheet.proofs.ReadingLaws.{Formed, form-yes, amounts-yes}
-use Rattle.sheet.proofs.QuestionLaws.{well-numbered, even, fees-good}
-use Rattle.sheet.proofs.FormLaws.{hauls-are}
+use Rattle.record.specs.declared.Record.{Record}
+use Rattle.record.specs.Records.{recordAt}
+use Rattle.questions.specs.Bounds.{yardKind, haulKind, mostYards, mostFarms, mostFee, mostHaul}
+use Rattle.questions.specs.Sheet.{records, isYard, yards, hauls, farms, place, haul}
+use Rattle.questions.specs.Questions.{question1, question2, question3, question4, question5, wellFormed, wellFormedAt, numbered, noYardAfter, haulInPlace, farmInPlace, amountWithin}
+use Rattle.sheet.specs.OnePass.{recordIs, goodYard, goodYards, goodHaul, goodFarm, Passes}
+use Rattle.questions.proofs.ReadingLaws.{Formed, form-yes}
+use Rattle.questions.proofs.QuestionLaws.{well-numbered, even, fees-good}
+use Rattle.questions.proofs.FormLaws.{hauls-are, farms-are-hauls}
 
 -- ---- one record
 
@@ -46,41 +47,51 @@ module _ (r : Record) (kind yard farm most : ℕ) where
         within = leb-true (r .amount) most (and-right (eqb (r .farm) farm) _ last);
       }
 
+-- what the pass learns of record i
+module _ (s : List ℕ) (i : ℕ) (r : Record) (is : r ≡ recordAt s i) where
+  pub is-yard : isYard s i ≡ eqb (r .kind) yardKind
+  unfolding isYard
+  is-yard = ap (λ (x : Record). eqb (x .kind) yardKind) (sym is)
+
+  pub yard-tested : recordIs r yardKind i 0 mostFee ≡ goodYard s i
+  unfolding goodYard
+  yard-tested = ap (λ x. recordIs x yardKind i 0 mostFee) is
+
 -- what the pass learns of the record at the place of a haul
-module _ (s : List ℕ) (m p a : ℕ) (r : Record) (b : Bool) (is : r ≡ recordAt s (place m p a)) (tested : b ≡ recordIs r 0x48 a p 1000000) where
+module _ (s : List ℕ) (m p a : ℕ) (r : Record) (b : Bool) (is : r ≡ recordAt s (place m p a)) (tested : b ≡ recordIs r haulKind a p mostHaul) where
   pub haul-tested : b ≡ goodHaul s m p a
   unfolding goodHaul
-  haul-tested = tested ∙ ap (λ x. recordIs x 0x48 a p 1000000) is
+  haul-tested = tested ∙ ap (λ x. recordIs x haulKind a p mostHaul) is
 
   pub haul-read : r .amount ≡ haul s m a p
   unfolding haul
   haul-read = ap (λ (x : Record). x .amount) is
 
   pub haul-low : b ≡ true → r .amount < costLimit
-  haul-low e = omega (arith, says r 0x48 a p 1000000 (sym tested ∙ e) .within)
+  haul-low e = omega (arith, says r haulKind a p mostHaul (sym tested ∙ e) .within)
 
 -- ---- the sheet
 
-module _ (s : List ℕ) (some-yards : 1 ≤ yards s) (few-yards : yards s ≤ 32) (some-farms : 1 ≤ farms s) (few-farms : farms s ≤ 128)
+module _ (s : List ℕ) (some-yards : 1 ≤ yards s) (few-yards : yards s ≤ mostYards) (some-farms : 1 ≤ farms s) (few-farms : farms s ≤ mostFarms)
     (shared : hauls s ≡ farms s * yards s) (yards-good : allBelow (yards s) (goodYard s) ≡ true)
     (farms-good : allBelow (farms s) (goodFarm s (yards s)) ≡ true) where
-  yard-said : (i : ℕ) → i < yards s → Said (recordAt s i) 0x59 i 0 50000000
+  yard-said : (i : ℕ) → i < yards s → Said (recordAt s i) yardKind i 0 mostFee
   unfolding goodYard
-  yard-said i l = says (recordAt s i) 0x59 i 0 50000000 (all-at (goodYard s) (yards s) i yards-good l)
+  yard-said i l = says (recordAt s i) yardKind i 0 mostFee (all-at (goodYard s) (yards s) i yards-good l)
 
-  haul-said : (p a : ℕ) → p < farms s → a < yards s → Said (recordAt s (place (yards s) p a)) 0x48 a p 1000000
+  haul-said : (p a : ℕ) → p < farms s → a < yards s → Said (recordAt s (place (yards s) p a)) haulKind a p mostHaul
   unfolding goodFarm goodHaul
   haul-said p a lp la =
-      says (recordAt s (place (yards s) p a)) 0x48 a p 1000000
+      says (recordAt s (place (yards s) p a)) haulKind a p mostHaul
       (all-at (goodHaul s (yards s) p) (yards s) a (all-at (goodFarm s (yards s)) (farms s) p farms-good lp) la)
 
   -- haul record k is that of farm k / m and yard k % m
-  haul-said-at : (k : ℕ) → k < hauls s → Said (recordAt s (yards s + k)) 0x48 (k % yards s) (k / yards s) 1000000
+  haul-said-at : (k : ℕ) → k < hauls s → Said (recordAt s (yards s + k)) haulKind (k % yards s) (k / yards s) mostHaul
   haul-said-at k l =
       let m = yards s in
       let some : zero < m = omega arith in
       let farm : k / m < farms s = div-lt-iff-lt-mul some .1 (subst (λ (x : ℕ). k < x) shared l) in
-      subst (λ (i : ℕ). Said (recordAt s i) 0x48 (k % m) (k / m) 1000000) (omega (arith, mod-add-div' k m)) (haul-said (k / m) (k % m) farm (mod-lt k some))
+      subst (λ (i : ℕ). Said (recordAt s i) haulKind (k % m) (k / m) mostHaul) (omega (arith, mod-add-div' k m)) (haul-said (k / m) (k % m) farm (mod-lt k some))
 
   second : question2 s ≡ true
   unfolding question2 wellFormedAt
@@ -115,21 +126,56 @@ module _ (s : List ℕ) (some-yards : 1 ≤ yards s) (few-yards : yards s ≤ 32
   fifth : question5 s ≡ true
   unfolding amountWithin
   fifth =
-      sym (fees-good s (all-from (amountWithin s 0 50000000) (yards s)
-      (λ i l. rw (zero-add i) (le-leb (recordAt s i .amount) 50000000 (yard-said i l .within)))))
-      ∙ all-from (amountWithin s (yards s) 1000000) (hauls s)
-      (λ k l. le-leb (recordAt s (yards s + k) .amount) 1000000 (haul-said-at k l .within))
+      sym (fees-good s (all-from (amountWithin s 0 mostFee) (yards s)
+      (λ i l. rw (zero-add i) (le-leb (recordAt s i .amount) mostFee (yard-said i l .within)))))
+      ∙ all-from (amountWithin s (yards s) mostHaul) (hauls s)
+      (λ k l. le-leb (recordAt s (yards s + k) .amount) mostHaul (haul-said-at k l .within))
 
--- the counts that the one pass gives
-pub passes : (s : List ℕ) (m n : ℕ) → m ≡ yards s → n ≡ farms s → question1 s ≡ true → 1 ≤ m → m ≤ 32 → 1 ≤ n → n ≤ 128
-    → records s - m ≡ n * m → allBelow m (goodYard s) ≡ true → allBelow n (goodFarm s m) ≡ true → Passes s m n
-passes s m n y f first some few some-farms few-farms e yards-good farms-good =
+-- ---- the counts that the one pass gives
+
+-- how its tests of the yards come out
+module _ (s : List ℕ) where
+  pub yards-good : (i : ℕ) → yards s ≡ i → i ≤ mostYards → true ≡ allBelow i (goodYard s) → i ≡ goodYards s
+  unfolding goodYards
+  yards-good i e few good = rw (e, le-leb i mostYards few, ← good)
+
+  module _ (i : ℕ) (led : leading (i + 1) (isYard s) ≡ i + 1) (inside : i < records s) where
+    more : i < yards s
+    unfolding yards
+    more = omega (arith, leading-reaches (isYard s) (records s) (i + 1) led (omega arith))
+
+    pub yards-many : mostYards ≤ i → 0 ≡ goodYards s
+    unfolding goodYards
+    yards-many many = rw (lt-leb (yards s) mostYards (omega (arith, more)))
+
+    pub yards-bad : goodYard s i ≡ false → 0 ≡ goodYards s
+    unfolding goodYards
+    yards-bad bad = rw (all-stops (goodYard s) (yards s) i more bad, and-false)
+
+-- the yards that it counts are those that stand first
+pub yards-counted : (s : List ℕ) (y : ℕ) → y ≡ goodYards s → 1 ≤ y → (y ≡ yards s) × (y ≤ mostYards) × (allBelow y (goodYard s) ≡ true)
+unfolding goodYards
+yards-counted s y e some = go (leb (yards s) mostYards && allBelow (yards s) (goodYard s)) refl
+  where
+    go : (b : Bool) → (leb (yards s) mostYards && allBelow (yards s) (goodYard s)) ≡ b
+        → (y ≡ yards s) × (y ≤ mostYards) × (allBelow y (goodYard s) ≡ true)
+    go true h =
+        let is : y ≡ yards s = e ∙ ap (λ (b : Bool). cond b (yards s) 0) h in
+        (is, rw is (leb-true (yards s) mostYards (and-left _ _ h)), rw is (and-right (leb (yards s) mostYards) _ h))
+    go false h = let none : y ≡ 0 = e ∙ ap (λ (b : Bool). cond b (yards s) 0) h in absurd (not-suc-le-zero (rw none at some))
+
+pub passes : (s : List ℕ) (m n : ℕ) → question1 s ≡ true → m ≡ goodYards s → 1 ≤ m → n ≡ (records s - m) / m → 1 ≤ n → n ≤ mostFarms
+    → records s - m ≡ n * m → allBelow n (goodFarm s m) ≡ true → Passes s m n
+passes s m n first counted some n-is some-farms few-farms e farms-good =
+    let led = yards-counted s m counted some in
+    let y : m ≡ yards s = led .0 in
+    let f : n ≡ farms s = n-is ∙ (rw y refl ∙ sym (farms-are-hauls s)) in
     let shared : hauls s ≡ farms s * yards s = hauls-are s ∙ rw (← y, ← f) e in
     let a : 1 ≤ yards s = omega arith in
-    let b : yards s ≤ 32 = omega arith in
+    let b : yards s ≤ mostYards = omega (arith, led .1) in
     let c : 1 ≤ farms s = omega arith in
-    let d : farms s ≤ 128 = omega arith in
-    let g : allBelow (yards s) (goodYard s) ≡ true = rw (← y) yards-good in
+    let d : farms s ≤ mostFarms = omega arith in
+    let g : allBelow (yards s) (goodYard s) ≡ true = rw (← y) (led .2) in
     let h : allBelow (farms s) (goodFarm s (yards s)) ≡ true = rw (← y, ← f) farms-good in
     let formed : Formed s = record { first = first; second = second s a b c d shared g h; third = third s a b c d shared g h; fourth = fourth s a b c d shared g h } in
-    rw (y, f) (amounts-yes s (form-yes s formed) (fifth s a b c d shared g h))
+    (rw (y, f) (form-yes s formed), fifth s a b c d shared g h)

@@ -4,7 +4,7 @@ use mathlib.Core.Path.{_≡_}
 use mathlib.Core.List.{List}
 use lib.ListN.{length, getD}
 use Rattle.four_point.specs.Table.{rowPlaces, mostFacilities, costLimit, row}
-use Rattle.sheet.specs.Sheet.{haul}
+use Rattle.questions.specs.Sheet.{haul}
 
 -- a row for every yard that there may be, and all entries below the limit
 pub record HasRows (table : List ℕ) : Type 0 where

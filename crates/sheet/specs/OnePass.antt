@@ -1,18 +1,19 @@
--- What the one pass over a good sheet tests: each record whole, by what document 01 asks of it at its place.
+-- What the one pass over a good sheet tests, for private functions alone: each record whole, by what document 01 asks of it at its place.
 use Prim.Native.Nat.{ℕ}
 use mathlib.Core.Path.{_≡_}
-use mathlib.Core.Bool.{Bool, _&&_}
+use mathlib.Core.Bool.{Bool, true, cond, _&&_}
 use mathlib.Core.List.{List}
 use lib.Dec.{eqb, leb}
 use Rattle.model.specs.Loops.{allBelow}
-use Rattle.sheet.specs.declared.record.Record.{Record}
+use Rattle.record.specs.declared.Record.{Record}
+use Rattle.record.specs.Records.{recordAt}
+use Rattle.questions.specs.Bounds.{yardKind, haulKind, mostYards, mostFee, mostHaul}
+use Rattle.questions.specs.Answers.{accepted}
+use Rattle.questions.specs.Sheet.{yards, place}
+use Rattle.questions.specs.Questions.{wellFormed, question5}
+use Rattle.questions.specs.Reading.{counts, form}
 use Rattle.sheet.specs.declared.one_pass.OnePass.{OnePass}
 use Rattle.sheet.specs.declared.one_pass.OnePass.the-variants.{Good, Faulty}
-use Rattle.sheet.specs.Records.{recordAt, wellFormed}
-use Rattle.sheet.specs.Answers.{Answer, accepted, ask, after}
-use Rattle.sheet.specs.Sheet.{place}
-use Rattle.sheet.specs.Questions.{question5}
-use Rattle.sheet.specs.Reading.{Counts, counts, form}
 use Rattle.sheet.specs.Hauls.{Filled}
 
 -- the record is well-formed, has this kind, yard and farm, and the amount is at most so much
@@ -21,22 +22,22 @@ recordIs r kind yard farm most = wellFormed r && (eqb (r .kind) kind && (eqb (r 
 
 -- record i is that of yard i, its fee within bounds
 unfoldable pub goodYard : List ℕ → ℕ → Bool
-goodYard s i = recordIs (recordAt s i) 0x59 i 0 50000000
+goodYard s i = recordIs (recordAt s i) yardKind i 0 mostFee
+
+-- how many yards stand first, where they are not too many and each is good; else 0
+unfoldable pub goodYards : List ℕ → ℕ
+goodYards s = cond (leb (yards s) mostYards && allBelow (yards s) (goodYard s)) (yards s) 0
 
 -- the record at the place of farm p's haul to yard a is that haul, within bounds
 unfoldable pub goodHaul : List ℕ → ℕ → ℕ → ℕ → Bool
-goodHaul s m p a = recordIs (recordAt s (place m p a)) 0x48 a p 1000000
+goodHaul s m p a = recordIs (recordAt s (place m p a)) haulKind a p mostHaul
 
 unfoldable pub goodFarm : List ℕ → ℕ → ℕ → Bool
 goodFarm s m p = allBelow m (goodHaul s m p)
 
--- questions 1 to 5: the form of a sheet, and its amounts
-unfoldable pub formAndAmounts : List ℕ → Answer Counts
-formAndAmounts s = after (form s) (λ c. ask (question5 s) 5 (accepted c))
-
 -- questions 1 to 5 are answered yes, and m and n are the counts
 abbrev pub Passes : List ℕ → ℕ → ℕ → Type 0
-Passes s m n = formAndAmounts s ≡ accepted (counts m n)
+Passes s m n = (form s ≡ accepted (counts m n)) × (question5 s ≡ true)
 
 -- some question of 1 to 5 is answered no
 abbrev pub Fails : List ℕ → Type 0

@@ -1,29 +1,19 @@
-// The haul sheet: eight-byte records, read where they lie.
+// The haul sheet, read where it lies.
 //
 // `read` asks questions 1 to 6 of document 01, `farm_hauls` gives one farm's stretch of the sheet. Every call is total: it takes any
-// bytes at all. `Record` is the one place that knows the bytes of a record.
-mod amounts;
-mod form;
+// bytes at all.
 mod one_pass;
-mod record;
 
-pub use form::MOST_BYTES;
-pub use record::KIND_HAUL;
-pub use record::KIND_YARD;
-pub use record::Record;
+pub use questions::MOST_BYTES;
+pub use questions::MOST_FARMS;
+pub use questions::MOST_YARDS;
+pub use questions::Reading;
 ghost use mathlib.Core.Path.{_≡_};
-ghost use Rattle.sheet.specs.Reading.{meaning, reading, stretch, farmHauls};
+ghost use Rattle.questions.specs.Reading.{meaning, reading};
+ghost use Rattle.sheet.specs.Stretch.{stretch, farmHauls};
+ghost use Rattle.sheet.specs.OnePass.{Fails};
 use one_pass::OnePass;
-
-pub const MOST_YARDS: usize = 32;
-
-pub const MOST_FARMS: usize = 128;
-
-// What reading answers: the counts of an accepted sheet, or the number of the first question that it fails.
-pub enum Reading {
-    Accepted { yards: usize, farms: usize },
-    Refused(u8),
-}
+use record::Record;
 
 // The counts of yards and farms, or the number of the first question of 1 to 6 that is answered no.
 pub fn read(sheet: &[u8]) -> Reading
@@ -37,7 +27,18 @@ pub fn read(sheet: &[u8]) -> Reading
             }
             Reading::Accepted { yards, farms }
         }
-        OnePass::Faulty => amounts::form_and_amounts_of(sheet),
+        OnePass::Faulty => refusal(sheet),
+    }
+}
+
+// The answer to a sheet that some question of 1 to 5 turns down: it is 5 where 1 to 4 do not.
+fn refusal(sheet: &[u8]) -> Reading
+    requires { ⌜ Fails (now sheet) ⌝ }
+    ensures { λ r. ⌜ meaning r ≡ reading (now (sheet .entry)) ⌝ }
+{
+    match questions::form_of(sheet) {
+        Reading::Accepted { yards: _, farms: _ } => Reading::Refused(5),
+        Reading::Refused(number) => Reading::Refused(number),
     }
 }
 
@@ -46,7 +47,7 @@ pub fn read(sheet: &[u8]) -> Reading
 pub fn farm_hauls(sheet: &[u8], farm: usize) -> &[u8]
     ensures { λ r. ⌜ now r ≡ farmHauls (now (sheet .entry)) farm ⌝ }
 {
-    match form::form_of(sheet) {
+    match questions::form_of(sheet) {
         Reading::Accepted { yards, farms } => {
             if farm < farms {
                 farm_stretch(sheet, yards, farm)

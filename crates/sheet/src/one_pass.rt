@@ -5,16 +5,21 @@ ghost use mathlib.Core.Bool.{true};
 ghost use Prim.Native.Nat.{_+_, _*_, _≤_};
 ghost use lib.ListN.{length};
 ghost use Rattle.model.specs.Loops.{allBelow};
-ghost use Rattle.sheet.specs.Shape.{Shape};
+ghost use Rattle.record.specs.Records.{recordAt};
+ghost use Rattle.questions.specs.Shape.{Shape};
 ghost use Rattle.sheet.specs.Hauls.{HasRows, Filled};
-ghost use Rattle.sheet.specs.OnePass.{goodYard, goodFarm, Told};
-use crate::MOST_FARMS;
-use crate::MOST_YARDS;
-use crate::amounts;
-use crate::form;
-use crate::record::KIND_HAUL;
-use crate::record::KIND_YARD;
-use crate::record::Record;
+ghost use Rattle.sheet.specs.OnePass.{recordIs, goodYards, goodFarm, Told};
+use questions::KIND_HAUL;
+use questions::KIND_YARD;
+use questions::LEAST_BYTES;
+use questions::MOST_BYTES;
+use questions::MOST_FARMS;
+use questions::MOST_YARDS;
+use record::Record;
+
+const MOST_FEE: u32 = 50000000;
+
+const MOST_HAUL: u32 = 1000000;
 
 // What the one pass answers: the counts of a sheet that passes questions 1 to 5, or that it finds some fault.
 pub(crate) enum OnePass {
@@ -27,27 +32,28 @@ pub(crate) fn counts_of(sheet: &[u8], table: &mut [u32]) -> OnePass
     requires { ⌜ HasRows (now table) ⌝ }
     ensures { λ r. ⌜ Told (now (sheet .entry)) r (now (table .exit)) ⌝ }
 {
-    if !form::length_good(sheet) {
+    if sheet.len() % Record::LEN != 0 {
         return OnePass::Faulty;
     }
-    let yards = form::leading_yards(sheet);
+    if sheet.len() < LEAST_BYTES {
+        return OnePass::Faulty;
+    }
+    if MOST_BYTES < sheet.len() {
+        return OnePass::Faulty;
+    }
+    let yards = good_yards(sheet);
     if yards < 1 {
         return OnePass::Faulty;
     }
-    if MOST_YARDS < yards {
-        return OnePass::Faulty;
-    }
-    let farms = form::farm_count(sheet, yards);
+    let hauls = sheet.len() / Record::LEN - yards;
+    let farms = hauls / yards;
     if farms < 1 {
         return OnePass::Faulty;
     }
     if MOST_FARMS < farms {
         return OnePass::Faulty;
     }
-    if sheet.len() / Record::LEN - yards != farms * yards {
-        return OnePass::Faulty;
-    }
-    if !good_yards(sheet, yards) {
+    if hauls != farms * yards {
         return OnePass::Faulty;
     }
     if !good_farms(sheet, yards, farms, table) {
@@ -56,25 +62,45 @@ pub(crate) fn counts_of(sheet: &[u8], table: &mut [u32]) -> OnePass
     OnePass::Good { yards, farms }
 }
 
-fn good_yard(sheet: &[u8], i: usize) -> bool
-    requires { ⌜ (8 * i + 8 ≤ length (now sheet)) × (i ≤ 255) ⌝ }
-    ensures { λ r. ⌜ r ≡ goodYard (now (sheet .entry)) i ⌝ }
+// Record i, read as a part of the sheet: of eight bytes the compiler knows that they hold a record.
+fn record_within(sheet: &[u8], i: usize) -> Record
+    requires { ⌜ 8 * i + 8 ≤ length (now sheet) ⌝ }
+    ensures { λ r. ⌜ r ≡ recordAt (now (sheet .entry)) i ⌝ }
 {
-    Record::within(sheet, i).is(KIND_YARD, i as u8, 0, amounts::MOST_FEE)
+    let at = Record::LEN * i;
+    Record::at(&sheet[at..at + Record::LEN], 0)
 }
 
-fn good_yards(sheet: &[u8], m: usize) -> bool
-    requires { ⌜ (8 * m ≤ length (now sheet)) × (m ≤ 32) ⌝ }
-    ensures { λ r. ⌜ r ≡ allBelow m (goodYard (now (sheet .entry))) ⌝ }
+// The record that a place asks for: well-formed, of this kind, with this yard and this farm, the amount at most `most`.
+fn record_is(tested: Record, kind: u8, yard: u8, farm: u8, most: u32) -> bool
+    ensures { λ r. ⌜ r ≡ recordIs tested kind yard farm most ⌝ }
 {
+    if !questions::well_formed(tested) {
+        return false;
+    }
+    tested.kind == kind && (tested.yard == yard && (tested.farm == farm && tested.amount <= most))
+}
+
+// How many yards stand first, where they are not too many and each is good; else 0.
+fn good_yards(sheet: &[u8]) -> usize
+    ensures { λ r. ⌜ r ≡ goodYards (now (sheet .entry)) ⌝ }
+{
+    let records = sheet.len() / Record::LEN;
     let mut i = 0;
-    while i < m {
-        if !good_yard(sheet, i) {
-            return false;
+    while i < records {
+        let record = record_within(sheet, i);
+        if record.kind != KIND_YARD {
+            break;
+        }
+        if MOST_YARDS <= i {
+            return 0;
+        }
+        if !record_is(record, KIND_YARD, i as u8, 0, MOST_FEE) {
+            return 0;
         }
         i += 1;
     }
-    true
+    i
 }
 
 // Tests farm p's haul records, and puts each haul in the row of its yard.
@@ -85,8 +111,8 @@ fn good_farm(sheet: &[u8], m: usize, p: usize, table: &mut [u32]) -> bool
 {
     let mut a = 0;
     while a < m {
-        let record = Record::within(sheet, m + p * m + a);
-        if !record.is(KIND_HAUL, a as u8, p as u8, amounts::MOST_HAUL) {
+        let record = record_within(sheet, m + p * m + a);
+        if !record_is(record, KIND_HAUL, a as u8, p as u8, MOST_HAUL) {
             return false;
         }
         table[four_point::ROW_PLACES * a + p] = record.amount;

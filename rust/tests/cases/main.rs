@@ -14,9 +14,11 @@ const LINE_COUNT: usize = 90;
 /// How an implementation gives a farm's stretch.
 type FarmHauls = fn(&[u8], usize) -> Vec<u8>;
 
-/// The library gives a farm's stretch byte by byte.
+/// The library gives a farm's stretch as a part of the sheet, and byte by byte.
 fn library_farm_hauls(sheet: &[u8], farm: usize) -> Vec<u8> {
-    (0..library::farm_len(sheet, farm)).map(|at| library::farm_byte(sheet, farm, at)).collect()
+    let bytes: Vec<u8> = (0..library::farm_len(sheet, farm)).map(|at| library::farm_byte(sheet, farm, at)).collect();
+    assert_eq!(library::farm_hauls(sheet, farm), bytes, "farm {farm}: its part of the sheet, and byte by byte");
+    bytes
 }
 
 /// Compares line by line, and shows every difference before it fails.

@@ -71,6 +71,11 @@ impl<'a> Comparison<'a> {
             let other = literal::farm_hauls(&self.sample.sheet, farm);
             let length = library::farm_len(&self.sample.sheet, farm);
             assert!(length == other.len(), "farm_len {farm}: {length}, literal {}; {}", other.len(), self.sheet());
+            let from = library::farm_from(&self.sample.sheet, farm);
+            let other_from =
+                if other.is_empty() { 0 } else { other.as_ptr().addr() - self.sample.sheet.as_ptr().addr() };
+            assert!(from == other_from, "farm_from {farm}: {from}, literal {other_from}; {}", self.sheet());
+            assert!(library::farm_hauls(&self.sample.sheet, farm) == other, "farm_hauls {farm}; {}", self.sheet());
             self.tally.stretch(length);
             let step = if self.large() { 29 } else { 1 };
             for at in (0..length + RECORD).step_by(step).chain([length, 1 << 32, usize::MAX]) {

@@ -1,8 +1,8 @@
 -- `planner_read` meets its contract: the arms of the `match` are the cases of `countsNumber`, and the counts are few.
 use native.Mathlib.Omega.{arith}
 use mathlib.Core.Path.{sym, ap, _∙_}
-use Rattle.sheet.specs.Reading.{meaning}
-use Rattle.sheet.proofs.AcceptedLaws.{accepts}
+use Rattle.questions.specs.Reading.{meaning}
+use Rattle.questions.proofs.AcceptedLaws.{accepts}
 use Rattle.exports.specs.Numbers.{countsNumber}
 use borrow.Author.Needs.{needs}
 use Rattle.exports.proofs.planner_read.Statement.{statement}

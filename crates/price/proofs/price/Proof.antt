@@ -2,8 +2,8 @@
 use native.Mathlib.Omega.{arith}
 use mathlib.Core.Path.{sym, ap, _∙_}
 use Rattle.model.proofs.Bools.{said-no, said-yes}
-use Rattle.sheet.specs.Reading.{meaning}
-use Rattle.sheet.proofs.AcceptedLaws.{accepts, shape-of}
+use Rattle.questions.specs.Reading.{meaning}
+use Rattle.questions.proofs.AcceptedLaws.{accepts, shape-of}
 use Rattle.price.proofs.PlanLaws.{fits-says, fits-within, end-room, writes-all}
 use Rattle.price.proofs.PricingLaws.{refuses, unread, badly-marked, no-room, total-small, prices}
 use Rattle.price.proofs.OfPlanLaws.{pricing-promises}

@@ -1,7 +1,8 @@
 -- `farm_hauls` meets its contract: the arms of the `match` are the cases of `farmHauls`.
 use mathlib.Core.Path.{sym, ap, _∙_}
 use borrow.Author.Tests.{lt-ltb, le-ltb}
-use Rattle.sheet.specs.Reading.{meaning, farmHauls}
+use Rattle.questions.specs.Reading.{meaning}
+use Rattle.sheet.specs.Stretch.{farmHauls}
 use borrow.Author.Needs.{needs}
 use Rattle.sheet.proofs.farm_hauls.Statement.{statement}
 use Rattle.sheet.proofs.farm_hauls.Tie as tie

@@ -1,9 +1,9 @@
 -- `read` meets its contract: each `return` is a case of `reading`.
-use mathlib.Core.Path.{sym, subst, _∙_}
+use mathlib.Core.Path.{sym, subst}
 use Rattle.model.proofs.Bools.{said-no, said-yes}
 use Rattle.sheet.specs.OnePass.{Told}
 use Rattle.sheet.proofs.HaulLaws.{zero-rows}
-use Rattle.sheet.proofs.ToldLaws.{fails-reading, rule-broken, rule-kept}
+use Rattle.sheet.proofs.ToldLaws.{rule-broken, rule-kept}
 use borrow.Author.Needs.{needs}
 use Rattle.sheet.proofs.read.Statement.{statement}
 use Rattle.sheet.proofs.read.Tie as tie
@@ -33,8 +33,9 @@ returns c = let asked = c .before in
 enum-told : tie.Need-enum-told
 enum-told c = search needs
 
-form-and-amounts-of-requires : tie.Need-form-and-amounts-of-requires
-form-and-amounts-of-requires c κs = search needs
+refusal-requires : tie.Need-refusal-requires
+refusal-requires c κs = let counted = c .before .before .before in
+    subst (λ r. Told (counted .before .before .before .args .sheet .now) r (counted .counts-of .last .1 .0)) (c .enum-told .given .1) (counted .counts-of .ensures)
 
 returns-2 : tie.Need-returns-2
 returns-2 c = let asked = c .before in
@@ -44,10 +45,7 @@ returns-2 c = let asked = c .before in
     sym (rule-kept _ _ _ _ told (said-yes (asked .keeps-rule .ensures) (c .if1 .left)))
 
 returns-3 : tie.Need-returns-3
-returns-3 c = let arm = c .before in
-    let counted = arm .before .before .before in
-    let told = subst (λ r. Told (counted .before .before .before .args .sheet .now) r (counted .counts-of .last .1 .0)) (arm .enum-told .given .1) (counted .counts-of .ensures) in
-    c .form-and-amounts-of .ensures ∙ fails-reading _ told
+returns-3 c = c .refusal .ensures
 
 pub read-spec : {M : Type 1} → statement M
 read-spec =
@@ -60,6 +58,6 @@ read-spec =
     keeps-rule-requires
     returns
     enum-told
-    form-and-amounts-of-requires
+    refusal-requires
     returns-2
     returns-3)

@@ -1,7 +1,7 @@
 -- `put_farm` meets its contract: the record of the nearest yard on the farm's stretch, at the offset.
 use native.Mathlib.Omega.{arith}
 use mathlib.Core.Path.{sym, ap, _∙_}
-use Rattle.sheet.specs.Records.{recordOf, splice}
+use Rattle.record.specs.Records.{recordOf, splice}
 use Rattle.price.proofs.NearestLaws.{farm-yards}
 use Rattle.price.proofs.WriteLaws.{put-one}
 use Rattle.price.proofs.PlanLaws.{farm-on}

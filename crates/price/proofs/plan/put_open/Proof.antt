@@ -1,6 +1,6 @@
 -- `put_open` meets its contract: the record has the amount of the yard's record on the sheet.
 use mathlib.Core.Path.{sym, ap, _∙_}
-use Rattle.sheet.specs.Records.{recordOf, splice}
+use Rattle.record.specs.Records.{recordOf, splice}
 use Rattle.price.proofs.CostLaws.{yard-fee}
 use Rattle.price.proofs.WriteLaws.{put-one}
 use Rattle.price.proofs.PlanLaws.{open-on}

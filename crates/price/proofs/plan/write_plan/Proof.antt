@@ -2,7 +2,7 @@
 use native.Mathlib.Omega.{arith}
 use mathlib.Core.Path.{sym}
 use Rattle.model.proofs.Bools.{said-no, said-yes}
-use Rattle.sheet.proofs.SpliceLaws.{splice-none}
+use Rattle.record.proofs.SpliceLaws.{splice-none}
 use Rattle.price.proofs.PlanLaws.{fits-says, few-records, fits-shape, writes-none, writes-short, end-room, writes-all}
 use borrow.Author.Needs.{needs}
 use Rattle.price.proofs.plan.write_plan.Statement.{statement}

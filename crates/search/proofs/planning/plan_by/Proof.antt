@@ -6,9 +6,9 @@ use native.Mathlib.Omega.{arith}
 use lib.ListN.{getD-replicate}
 use borrow.Author.Needs.{needs}
 use Rattle.model.proofs.PlaceLaws.{few-places}
-use Rattle.sheet.specs.Answers.{accepted}
-use Rattle.sheet.specs.Sheet.{instanceBy}
-use Rattle.sheet.proofs.AcceptedLaws.{accepts, shape-of}
+use Rattle.questions.specs.Answers.{accepted}
+use Rattle.questions.specs.Sheet.{instanceBy}
+use Rattle.questions.proofs.AcceptedLaws.{accepts, shape-of}
 use Rattle.price.proofs.PricingLaws.{as-outcome}
 use Rattle.search.specs.Settling.{planOf}
 use Rattle.search.proofs.TableLaws.{tables-good}

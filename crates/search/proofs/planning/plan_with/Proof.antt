@@ -1,8 +1,8 @@
 -- `planning::plan_with` meets its contract: each arm is a case of `planningBy`.
 use mathlib.Core.Path.{sym, ap, _∙_}
 use Rattle.model.proofs.Bools.{said-no, said-yes}
-use Rattle.sheet.specs.Reading.{meaning}
-use Rattle.sheet.proofs.AcceptedLaws.{accepts}
+use Rattle.questions.specs.Reading.{meaning}
+use Rattle.questions.proofs.AcceptedLaws.{accepts}
 use Rattle.price.proofs.PlanLaws.{fits-within}
 use Rattle.price.proofs.PricingLaws.{refuses, as-outcome}
 use Rattle.search.proofs.PlanningLaws.{too-few, too-many, k-good, unread, bad-k, no-room, planned}

@@ -24,26 +24,26 @@ abbrev μ-loop : tie.MeasureT-loop
 loop-holds : tie.Need-loop-holds Inv-loop μ-loop
 loop-holds c = (omega arith, refl, all-none _, c .before .before .pre .1)
 
-mul-within : tie.Need-mul-within Inv-loop μ-loop
-mul-within c = omega arith
+mul-record-within : tie.Need-mul-record-within Inv-loop μ-loop
+mul-record-within c = omega arith
 
-add-within : tie.Need-add-within Inv-loop μ-loop
-add-within c = omega arith
+add-record-within : tie.Need-add-record-within Inv-loop μ-loop
+add-record-within c = omega arith
 
-add-within-2 : tie.Need-add-within-2 Inv-loop μ-loop
-add-within-2 c = omega arith
+add-record-within-2 : tie.Need-add-record-within-2 Inv-loop μ-loop
+add-record-within-2 c = omega arith
 
-within-requires : tie.Need-within-requires Inv-loop μ-loop
-within-requires c κs = omega arith
+record-within-requires : tie.Need-record-within-requires Inv-loop μ-loop
+record-within-requires c κs = omega arith
 
-cast-is : tie.Need-cast-is Inv-loop μ-loop
-cast-is c = omega arith
+cast-record-is : tie.Need-cast-record-is Inv-loop μ-loop
+cast-record-is c = omega arith
 
-cast-is-2 : tie.Need-cast-is-2 Inv-loop μ-loop
-cast-is-2 c = omega arith
+cast-record-is-2 : tie.Need-cast-record-is-2 Inv-loop μ-loop
+cast-record-is-2 c = omega arith
 
-is-requires : tie.Need-is-requires Inv-loop μ-loop
-is-requires c κs = omega arith
+record-is-requires : tie.Need-record-is-requires Inv-loop μ-loop
+record-is-requires c κs = omega arith
 
 same-length : tie.Need-same-length Inv-loop μ-loop
 same-length c = c .before .before .before .before .loop .inv .1
@@ -54,7 +54,7 @@ returns c = let asked = c .before in
     let turn = asked .before .before .before in
     let s = turn .before .before .before .args in (
       sym (all-stops _ _ (turn .loop .a) (omega arith)
-          (said-no (haul-tested (s .sheet .now) (s .m) (s .p) (turn .loop .a) _ _ (asked .before .within .ensures) (asked .is .ensures)) (c .if1 .taken))),
+          (said-no (haul-tested (s .sheet .now) (s .m) (s .p) (turn .loop .a) _ _ (asked .before .record-within .ensures) (asked .record-is .ensures)) (c .if1 .taken))),
       λ yes. clash yes refl,
     )
 
@@ -80,8 +80,8 @@ loop-again : tie.Need-loop-again Inv-loop μ-loop
 loop-again c = let asked = c .before in
     let turn = asked .before .before .before in
     let s = turn .before .before .before .args in
-    let read = asked .before .within .ensures in
-    let test = asked .is .ensures in (
+    let read = asked .before .record-within .ensures in
+    let test = asked .record-is .ensures in (
       omega arith,
       simp length-set (turn .loop .inv .1),
       all-more _ _ (turn .loop .inv .2) (said-yes (haul-tested (s .sheet .now) (s .m) (s .p) (turn .loop .a) _ _ read test) (c .if1 .left)),
@@ -105,13 +105,13 @@ good-farm-spec =
     Inv-loop
     μ-loop
     loop-holds
-    mul-within
-    add-within
-    add-within-2
-    within-requires
-    cast-is
-    cast-is-2
-    is-requires
+    mul-record-within
+    add-record-within
+    add-record-within-2
+    record-within-requires
+    cast-record-is
+    cast-record-is-2
+    record-is-requires
     same-length
     returns
     mul-table

@@ -1,0 +1,30 @@
+-- `planner_farm_from` meets its contract: a stretch tells by its length where it begins.
+use mathlib.Core.Path.{refl, ap}
+use native.Mathlib.Omega.{arith}
+use lib.ListN.{length}
+use Rattle.sheet.proofs.FarmLaws.{farm-begins}
+use borrow.Author.Needs.{needs}
+use Rattle.exports.proofs.planner_farm_from.Statement.{statement}
+use Rattle.exports.proofs.planner_farm_from.Tie as tie
+
+farm-hauls-requires : tie.Need-farm-hauls-requires
+farm-hauls-requires c κs = search needs
+
+mul-result : tie.Need-mul-result
+mul-result c = let start = c .before .before .args in
+    let b = farm-begins (start .sheet .now) (start .farm) in
+    rw (ap length (c .farm-hauls .ensures)) (omega (arith, b .by-length, b .inside))
+
+add-result : tie.Need-add-result
+add-result c = let start = c .before .before .args in
+    let b = farm-begins (start .sheet .now) (start .farm) in
+    rw (ap length (c .farm-hauls .ensures)) (omega (arith, b .by-length, b .inside))
+
+returns : tie.Need-returns
+returns c = let start = c .before .before .args in
+    let b = farm-begins (start .sheet .now) (start .farm) in
+    let is = ap length (c .farm-hauls .ensures) in
+    rw (is, ← b .by-length) (refl, (b .inside, b .part))
+
+pub planner-farm-from-spec : {M : Type 1} → statement M
+planner-farm-from-spec = tie.close (tie.spec farm-hauls-requires mul-result add-result returns)

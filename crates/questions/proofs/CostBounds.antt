@@ -1,0 +1,37 @@
+-- On an accepted sheet every set's costs fit the four bytes of an amount.
+use Prim.Native.Nat.{ℕ, _*_, _^_, _≤_, _<_}
+use native.Mathlib.Nat.{le-trans, mul-le-mul-right}
+use native.Mathlib.Omega.{arith}
+use mathlib.Core.Bool.{Bool}
+use Rattle.model.specs.Loops.{on}
+use Rattle.model.specs.Instance.{Instance, nearest, openingCost, serviceCost, totalCost}
+use Rattle.model.proofs.SumLaws.{sum-bound, on-le}
+use Rattle.model.proofs.LeastLaws.{least-bound}
+use Rattle.questions.specs.Bounds.{mostYards, mostFarms, mostFee, mostHaul}
+use Rattle.questions.proofs.AcceptedLaws.{WithinBounds}
+
+module _ (I : Instance) (w : WithinBounds I) (S : ℕ → Bool) where
+  nearest-within : (j : ℕ) → j < I .clients → nearest I S j ≤ mostHaul
+  unfolding nearest
+  nearest-within j l = least-bound (I .facilities) mostHaul S (λ i. I .service i j) (λ i k. w .service-within i j k l)
+
+  opening-small : openingCost I S ≤ mostYards * mostFee
+  unfolding openingCost
+  opening-small =
+      le-trans
+      (sum-bound (I .facilities) mostFee (λ i. on (S i) (I .opening i)) (λ i l. le-trans (on-le (S i) (I .opening i)) (w .opening-within i l)))
+      (mul-le-mul-right mostFee (w .few-facilities))
+
+  service-small : serviceCost I S ≤ mostFarms * mostHaul
+  unfolding serviceCost
+  service-small =
+      le-trans
+      (sum-bound (I .clients) mostHaul (λ j. I .weight j * nearest I S j) (λ j l. rw (w .weight-one j) (omega (arith, nearest-within j l))))
+      (mul-le-mul-right mostHaul (w .few-clients))
+
+  pub total-fits : totalCost I S < 2 ^ 32
+  unfolding totalCost
+  total-fits = omega (arith, opening-small, service-small)
+
+  pub service-fits : serviceCost I S < 2 ^ 32
+  service-fits = omega (arith, service-small)

@@ -1,0 +1,77 @@
+-- Laws of single records: reading one that the bytes hold whole or do not, writing one that fits or does not.
+use Prim.Native.Nat.{ℕ, suc, _+_, _-_, _*_, _≤_, _<_}
+use native.Mathlib.Nat.{add-zero}
+use native.Mathlib.Omega.{arith}
+use mathlib.Core.Path.{_≡_, refl, sym, ap, _∙_}
+use mathlib.Core.List.{List, [], _∷_}
+use borrow.Author.Tests.{le-leb, lt-leb}
+use lib.ListN.{length, getD, take, drop, set, length-drop}
+use lib.Seq.{getD-take, getD-drop, length-take-le, sets-eq}
+use Rattle.record.specs.Records.{wordBytes, recordOf, recordAt, wholeRecordAt, bytesOf, splice, putAt}
+use Rattle.record.specs.declared.Record.{Record}
+use Rattle.record.proofs.SpliceLaws.{splice-turn}
+
+pub whole : (s : List ℕ) (i : ℕ) → 8 * i + 8 ≤ length s → wholeRecordAt s i ≡ recordAt s i
+unfolding wholeRecordAt
+whole s i h = rw (le-leb (8 * i + 8) (length s) h)
+
+pub not-whole : (s : List ℕ) (i : ℕ) → length s < 8 * i + 8 → wholeRecordAt s i ≡ recordOf 0 0 0 0 0
+unfolding wholeRecordAt
+not-whole s i h = rw (lt-leb (8 * i + 8) (length s) h)
+
+-- a byte of a part of the bytes, and a record of it, is that at its place in the whole
+
+part-byte : (s : List ℕ) (k m i j : ℕ) → i < 8 * m → 8 * k + i ≡ j → getD (take (8 * m) (drop (8 * k) s)) i 0 ≡ getD s j 0
+part-byte s k m i j l e =
+    getD-take (8 * m) (drop (8 * k) s) i 0 l ∙ getD-drop (8 * k) s i 0 ∙ ap (λ x. getD s x 0) e
+
+pub part-record : (s : List ℕ) (k m a : ℕ) → a < m → recordAt (take (8 * m) (drop (8 * k) s)) a ≡ recordAt s (k + a)
+unfolding recordAt
+part-record s k m a below =
+    rw (
+      part-byte s k m (8 * a) (8 * (k + a)) (omega arith) (omega arith),
+      byte 1 (omega arith),
+      byte 2 (omega arith),
+      byte 3 (omega arith),
+      byte 4 (omega arith),
+      byte 5 (omega arith),
+      byte 6 (omega arith),
+      byte 7 (omega arith),
+    )
+  where
+    byte : (b : ℕ) → b < 8 → getD (take (8 * m) (drop (8 * k) s)) (8 * a + b) 0 ≡ getD s (8 * (k + a) + b) 0
+    byte b l = part-byte s k m (8 * a + b) (8 * (k + a) + b) (omega arith) (omega arith)
+
+-- record i, read as the eight bytes of its own
+pub eight-bytes : (s part : List ℕ) (i : ℕ) → 8 * i + 8 ≤ length s → part ≡ take (8 * i + 8 - 8 * i) (drop (8 * i) s) → wholeRecordAt part 0 ≡ recordAt s i
+eight-bytes s part i room cut =
+    let eight : 8 * i + 8 - 8 * i ≡ 8 = omega arith in
+    let e : part ≡ take 8 (drop (8 * i) s) = cut ∙ ap (λ (n : ℕ). take n (drop (8 * i) s)) eight in
+    let size : length part ≡ 8 = ap length e ∙ length-take-le 8 (drop (8 * i) s) (omega (arith, length-drop (8 * i) s)) in
+    whole part 0 (omega arith) ∙ ap (λ (x : List ℕ). recordAt x 0) e ∙ part-record s i 1 0 (omega arith) ∙ ap (recordAt s) (add-zero i)
+
+pub put-fits : (area : List ℕ) (at : ℕ) (r : Record) → at + 8 ≤ length area → putAt area at r ≡ splice area at (bytesOf r)
+unfolding putAt
+put-fits area at r h = rw (le-leb (at + 8) (length area) h)
+
+pub put-not : (area : List ℕ) (at : ℕ) (r : Record) → length area < at + 8 → putAt area at r ≡ area
+unfolding putAt
+put-not area at r h = rw (lt-leb (at + 8) (length area) h)
+
+-- four stores in a row are one splice
+pub put4 : (l : List ℕ) (i a b c d : ℕ) → i + 4 ≤ length l
+    → set (set (set (set l i a) (i + 1) b) (i + 2) c) (i + 3) d ≡ splice l i (a ∷ b ∷ c ∷ d ∷ [])
+unfolding splice
+put4 l i a b c d room =
+    let e1 : i + 1 ≡ suc i = omega arith in
+    let e2 : i + 2 ≡ suc (suc i) = omega arith in
+    let e3 : i + 3 ≡ suc (suc (suc i)) = omega arith in
+    rw (e1, e2, e3) (sets-eq (a ∷ b ∷ c ∷ d ∷ []) l i room)
+
+-- four stores and the amount behind them are a record
+pub put-record : (l : List ℕ) (i : ℕ) (r : Record) → i + 8 ≤ length l
+    → splice (set (set (set (set l i (r .kind)) (i + 1) (r .yard)) (i + 2) (r .farm)) (i + 3) (r .byte3)) (i + 4) (wordBytes (r .amount)) ≡ putAt l i r
+unfolding bytesOf wordBytes
+put-record l i r room =
+    splice-turn l _ i (i + 4) (r .kind ∷ r .yard ∷ r .farm ∷ r .byte3 ∷ []) (wordBytes (r .amount)) (put4 l i (r .kind) (r .yard) (r .farm) (r .byte3) (omega arith)) refl (omega arith)
+    ∙ sym (put-fits l i r room)

@@ -1,0 +1,2 @@
+-- Records: eight bytes, and where they are put in an area.
+pub mod Records
