@@ -16,7 +16,7 @@ use Rattle.model.proofs.TwoLeastLaws.{two-none, two-skip}
 use Rattle.model.proofs.CostLaws.{opening-plus}
 use Rattle.model.proofs.NearestChangeLaws.{nearestTwo, nearest-with}
 use Rattle.sets.specs.Within.{with32}
-use Rattle.sets.proofs.SetLaws.{with32-below}
+use Rattle.sets.proofs.WithinLaws.{with32-below}
 use Rattle.engine.specs.Bounds.{mostEntry, noFacility, mostServed, wordEnd, addedFrom}
 use Rattle.engine.specs.Tables.{tabled, tableCost, Openings}
 use Rattle.engine.specs.Rows.{entry, Rows, ColumnSums}

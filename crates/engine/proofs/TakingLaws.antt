@@ -20,7 +20,7 @@ use Rattle.model.proofs.SumLaws.{sum-none, sum-more}
 use Rattle.model.proofs.CountLaws.{count-missing}
 use Rattle.model.proofs.PassingLaws.{through-more, through-keeps, through-holds}
 use Rattle.sets.specs.Within.{with32}
-use Rattle.sets.proofs.SetLaws.{with32-below}
+use Rattle.sets.proofs.WithinLaws.{with32-below}
 use Rattle.engine.specs.Bounds.{mostCost, topBit, lossFrom, moreFrom}
 use Rattle.engine.specs.Tables.{tableCost}
 use Rattle.engine.specs.Rows.{dearAt}

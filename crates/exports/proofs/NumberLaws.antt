@@ -15,16 +15,16 @@ use Rattle.questions.specs.Reading.{Counts, counts, reading}
 use Rattle.questions.proofs.ReadingLaws.{refused-by}
 use Rattle.questions.proofs.AcceptedLaws.{WithinBounds, instance-is, door, accepts}
 use Rattle.price.specs.Plan.{question9, planSet}
-use Rattle.price.specs.Pricing.{Result, result, Plan, plan, meaning, answer, areaAfter, OfPlan, question8, pricing}
+use Rattle.price.specs.Pricing.{Result, result, Plan, plan, plannedAnswer, answer, areaAfter, OfPlan, question8, pricing}
 use Rattle.price.specs.declared.Planned.{Planned}
 use Rattle.price.specs.declared.Planned.the-variants.{Written, Refused}
-use Rattle.price.proofs.PlanLaws.{plan-length}
-use Rattle.search.specs.Settling.{openEnd, limitedEnd, planOf}
+use Rattle.price.proofs.PlanRecordLaws.{plan-length}
+use Rattle.search.specs.SearchEnds.{openEnd, limitedEnd, planOf}
 use Rattle.search.specs.Planning.{openPlan, limitedPlan, question7, openPlanning, limitedPlanning}
 use Rattle.price.proofs.OfPlanLaws.{PlanOf, set-read-off, priced-set}
 use Rattle.search.proofs.PlanningLaws.{open-small, limited-small}
 use Rattle.search.proofs.PromiseLaws.{open-plan-of, limited-plan-of}
-use Rattle.exports.specs.Numbers.{countsNumber, resultNumber, refusal, yardsRead, farmsRead, bytesWritten, movesMade, OfWritten, Within}
+use Rattle.exports.specs.Numbers.{countsNumber, resultNumber, refusal, yardsRead, farmsRead, bytesWritten, movesMade, OfWritten, KeepsBits}
 
 -- ---- what a number of pricing or of a plan says
 
@@ -35,7 +35,7 @@ Said (accepted r) =
     × (movesMade (resultNumber (accepted r)) ≡ r .moves)
 Said (refused k) = (refusal (resultNumber (refused k)) ≡ k) × (1 ≤ k)
 
-said : (a : Answer Result) → Within a → Said a
+said : (a : Answer Result) → KeepsBits a → Said a
 unfolding refusal bytesWritten movesMade
 said (accepted r) (few, small) = (omega arith, omega arith, omega arith)
 said (refused k) (some, small) = (omega arith, some)
@@ -60,22 +60,22 @@ module _ (s : List ℕ) where
 
 -- ---- the answers of pricing and of the plans keep to their bits
 
-asked-within : (b : Bool) (k : ℕ) (rest : Answer Plan) → 1 ≤ k → k ≤ 9 → Within (answer rest) → Within (answer (ask b k rest))
+asked-within : (b : Bool) (k : ℕ) (rest : Answer Plan) → 1 ≤ k → k ≤ 9 → KeepsBits (answer rest) → KeepsBits (answer (ask b k rest))
 unfolding answer
 asked-within true k rest some few h = h
 asked-within false k rest some few h = (some, omega (arith, few))
 
 after-within : (s : List ℕ) (f : Counts → Answer Plan)
-    → ((m n : ℕ) → reading s ≡ accepted (counts m n) → Within (answer (f (counts m n)))) → Within (answer (after (reading s) f))
+    → ((m n : ℕ) → reading s ≡ accepted (counts m n) → KeepsBits (answer (f (counts m n)))) → KeepsBits (answer (after (reading s) f))
 unfolding answer
 after-within s f h = go (reading s) refl
   where
-    go : (r : Answer Counts) → reading s ≡ r → Within (answer (after r f))
+    go : (r : Answer Counts) → reading s ≡ r → KeepsBits (answer (after r f))
     go (accepted c) e = h (c .yards) (c .farms) e
     go (refused k) e = let l = refused-by s k e in (l .0, omega (arith, l .1))
 
 -- the plan of an accepted sheet has fewer than 2^24 bytes
-plan-within : (I : Instance) (set total moves : ℕ) → WithinBounds I → moves < 2 ^ 32 → Within (answer (accepted (plan I set total moves)))
+plan-within : (I : Instance) (set total moves : ℕ) → WithinBounds I → moves < 2 ^ 32 → KeepsBits (answer (accepted (plan I set total moves)))
 unfolding answer
 plan-within I set total moves w small = (
   omega (arith, plan-length I set total moves, count-le (I .facilities) (member set), w .few-facilities, w .few-clients),
@@ -84,7 +84,7 @@ plan-within I set total moves w small = (
 
 -- where question 9 comes last, before the plan
 ninth-within : (s : List ℕ) (room set total moves m n : ℕ) → reading s ≡ accepted (counts m n) → moves < 2 ^ 32
-    → Within (answer (ask (question9 m n room) 9 (accepted (plan (instanceOf s) set total moves))))
+    → KeepsBits (answer (ask (question9 m n room) 9 (accepted (plan (instanceOf s) set total moves))))
 ninth-within s room set total moves m n e small =
     asked-within (question9 m n room) 9 _ (omega arith) (omega arith) (plan-within (instanceOf s) set total moves (door s m n e) small)
 
@@ -97,19 +97,19 @@ module _ (s : List ℕ) (m n : ℕ) (e : reading s ≡ accepted (counts m n)) wh
   limited-moves k = limited-small s m n _ e k (ap (λ I. limitedEnd I k) (sym (instance-is (accepts s m n e .has)))) .1
 
 module _ (s : List ℕ) (room : ℕ) where
-  pub pricing-within : (set : ℕ) → Within (answer (pricing s set room))
+  pub pricing-within : (set : ℕ) → KeepsBits (answer (pricing s set room))
   unfolding pricing
   pricing-within set =
       after-within s _ (λ m n e. asked-within (question8 m set) 8 _ (omega arith) (omega arith)
       (ninth-within s room set (totalCost (instanceOf s) (member set)) 0 m n e (omega arith)))
 
-  pub open-within : Within (answer (openPlanning s room))
+  pub open-within : KeepsBits (answer (openPlanning s room))
   unfolding openPlanning openPlan planOf
   open-within =
       let end = openEnd (instanceOf s) in
       after-within s _ (λ m n e. ninth-within s room (end .set) (end .cost) (end .moves) m n e (open-moves s m n e))
 
-  pub limited-within : (k : ℕ) → Within (answer (limitedPlanning s k room))
+  pub limited-within : (k : ℕ) → KeepsBits (answer (limitedPlanning s k room))
   unfolding limitedPlanning limitedPlan planOf
   limited-within k =
       let end = limitedEnd (instanceOf s) k in
@@ -129,21 +129,21 @@ module _ (s : List ℕ) (room : ℕ) where
 -- ---- what is promised of a plan is promised of the bytes that the number tells
 
 module _ (r : ℕ) (area : List ℕ) (P : ℕ → Type 0) where
-  pub of-written : (p : Planned) → Within (meaning p) → r ≡ resultNumber (meaning p) → OfPlan p area P → OfWritten r area P
+  pub of-written : (p : Planned) → KeepsBits (plannedAnswer p) → r ≡ resultNumber (plannedAnswer p) → OfPlan p area P → OfWritten r area P
   of-written (Written bytes moves) within e h accepts =
-      let told : bytesWritten r ≡ bytes = ap bytesWritten e ∙ said (meaning (Written bytes moves)) within .1 in
+      let told : bytesWritten r ≡ bytes = ap bytesWritten e ∙ said (plannedAnswer (Written bytes moves)) within .1 in
       subst (λ b. P (planSet area b)) (sym told) (h bytes moves refl)
   of-written (Refused k) within e h accepts =
-      absurd (omega (arith, sym (said (meaning (Refused k)) within .0) ∙ sym (ap refusal e) ∙ accepts, within .0))
+      absurd (omega (arith, sym (said (plannedAnswer (Refused k)) within .0) ∙ sym (ap refusal e) ∙ accepts, within .0))
 
 -- ---- and is used: what is promised by the number of an accepted call holds of its plan's own set
 
-module _ (outcome : Answer Plan) (p : Plan) (e : outcome ≡ accepted p) (bits : Within (answer outcome)) (area : List ℕ) (P : ℕ → Type 0) where
+module _ (outcome : Answer Plan) (p : Plan) (e : outcome ≡ accepted p) (bits : KeepsBits (answer outcome)) (area : List ℕ) (P : ℕ → Type 0) where
   written-of : (set : ℕ) → PlanOf set p → OfWritten (resultNumber (answer outcome)) (areaAfter outcome area) P → P set
   unfolding answer
   written-of set f h =
       let is : answer outcome ≡ accepted (result (length (p .bytes)) (p .moves)) = ap answer e in
-      let told = said (accepted (result (length (p .bytes)) (p .moves))) (subst Within is bits) in
+      let told = said (accepted (result (length (p .bytes)) (p .moves))) (subst KeepsBits is bits) in
       subst P (ap (planSet (areaAfter outcome area)) (ap (λ a. bytesWritten (resultNumber a)) is ∙ told .1) ∙ set-read-off outcome p set e f area)
       (h (ap (λ a. refusal (resultNumber a)) is ∙ told .0))
 

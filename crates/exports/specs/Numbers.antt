@@ -42,6 +42,6 @@ abbrev pub OfWritten : ℕ → List ℕ → (ℕ → Type 0) → Type 0
 OfWritten r area P = refusal r ≡ 0 → P (planSet area (bytesWritten r))
 
 -- What the private `number` requires: the bytes written and the moves keep to their bits, and so does a refusal number, which is not 0.
-abbrev pub Within : Answer Result → Type 0
-Within (accepted r) = (r .bytes < 2 ^ 24) × (r .moves < 2 ^ 32)
-Within (refused k) = (1 ≤ k) × (k < 2 ^ 8)
+abbrev pub KeepsBits : Answer Result → Type 0
+KeepsBits (accepted r) = (r .bytes < 2 ^ 24) × (r .moves < 2 ^ 32)
+KeepsBits (refused k) = (1 ≤ k) × (k < 2 ^ 8)

@@ -7,10 +7,10 @@ ghost use Prim.Native.Nat.{_+_, _≤_};
 ghost use lib.ListN.{length, getD, take, drop};
 ghost use Rattle.questions.specs.Reading.{reading};
 ghost use Rattle.sheet.specs.Stretch.{farmHauls, farmFrom};
-ghost use Rattle.price.specs.Pricing.{meaning, answer, areaAfter, pricing};
+ghost use Rattle.price.specs.Pricing.{plannedAnswer, answer, areaAfter, pricing};
 ghost use Rattle.search.specs.Planning.{openPlanning, limitedPlanning};
 ghost use Rattle.search.specs.Promises.{NoOpenMove, BoundedByRivals, OfSize, NoLimitedMove, BoundedByRivalsOf};
-ghost use Rattle.exports.specs.Numbers.{countsNumber, resultNumber, Within, OfWritten};
+ghost use Rattle.exports.specs.Numbers.{countsNumber, resultNumber, KeepsBits, OfWritten};
 use price::Planned;
 use sheet::Reading;
 
@@ -100,8 +100,8 @@ pub extern "C" fn planner_limited_plan(sheet: &[u8], k: usize, area: &mut [u8]) 
 
 // The answer of a call that writes a plan, as a number.
 fn number(planned: Planned) -> u64
-    requires { ⌜ Within (meaning planned) ⌝ }
-    ensures { λ r. ⌜ r ≡ resultNumber (meaning planned) ⌝ }
+    requires { ⌜ KeepsBits (plannedAnswer planned) ⌝ }
+    ensures { λ r. ⌜ r ≡ resultNumber (plannedAnswer planned) ⌝ }
 {
     match planned {
         Planned::Written { bytes, moves } => (bytes as u64) * BIT_8 + (moves as u64) * BIT_32,

@@ -7,7 +7,7 @@ use mathlib.Core.Path.{_≡_, refl, sym, ap, ap₂, _∙_}
 use mathlib.Core.Logic.{_⊎_, inl, inr}
 use mathlib.Core.Bool.{Bool, true, false, not, _&&_, _||_}
 use lib.Dec.{eqb}
-use Rattle.model.specs.Loops.{on, sum}
+use Rattle.model.specs.Loops.{mostTerm, on, sum}
 use Rattle.model.proofs.Bools.{Eq?, same, diff, test}
 use Rattle.model.proofs.LoopLaws.{last-or}
 
@@ -21,16 +21,16 @@ pub sum-more : (f : ℕ → ℕ) (i : ℕ) → sum (i + 1) f ≡ sum i f + f i
 unfolding sum
 sum-more f i = rw add-one
 
--- a loop's total of the first i terms of f: their sum, and at most 2 ^ 32 for each, so that a u64 holds it
+-- a loop's total of the first i terms of f: their sum, and at most so much for each
 pub record Summed (f : ℕ → ℕ) (total i : ℕ) : Type 0 where
   pub exact : total ≡ sum i f
-  pub small : total ≤ i * 4294967296
+  pub small : total ≤ i * mostTerm
 
 module _ (f : ℕ → ℕ) where
   pub summed-none : Summed f 0 0
   summed-none = record { exact = sum-none f; small = omega arith }
 
-  pub summed-more : (total i x : ℕ) → Summed f total i → x ≡ f i → x ≤ 4294967296 → Summed f (total + x) (i + 1)
+  pub summed-more : (total i x : ℕ) → Summed f total i → x ≡ f i → x ≤ mostTerm → Summed f (total + x) (i + 1)
   summed-more total i x h e small = record { exact = rw (h .exact, e) (sym (sum-more f i)); small = omega (arith, h .small) }
 
 -- n terms of at most b

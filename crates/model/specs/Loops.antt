@@ -1,5 +1,5 @@
 -- What loops compute: a test of every index, the leading run, a sum, a join of lists.
-use Prim.Native.Nat.{ℕ, zero, suc, _+_}
+use Prim.Native.Nat.{ℕ, zero, suc, _+_, _^_}
 use mathlib.Core.Bool.{cond, Bool, true, false, _&&_}
 use mathlib.Core.List.{List, [], _++_}
 use lib.Dec.{eqb}
@@ -23,6 +23,10 @@ leading (suc n) p = cond (eqb (leading n p) n) (cond (p n) (suc n) n) (leading n
 unfoldable pub sum : ℕ → (ℕ → ℕ) → ℕ
 sum zero f = 0
 sum (suc n) f = sum n f + f n
+
+-- what a term is at most where a loop adds up few of them in a number of 64 bits
+abbrev pub mostTerm : ℕ
+mostTerm = 2 ^ 32
 
 -- f 0 ++ f 1 ++ .. ++ f (n - 1)
 unfoldable pub join : ℕ → (ℕ → List ℕ) → List ℕ

@@ -16,18 +16,19 @@ use Rattle.model.specs.Instance.{nearest, assigned}
 use Rattle.model.proofs.Bools.{cases, Lt?, less, more, test<}
 use Rattle.model.proofs.LeastLaws.{least-at, least-values, arg-values, arg-le}
 use Rattle.model.proofs.GapLaws.{NoneFrom, any-gap, least-gap, arg-gap}
-use Rattle.sets.proofs.SetLaws.{none-above}
+use Rattle.sets.proofs.WithinLaws.{none-above}
 use Rattle.sets.specs.Members.{risingBelow}
 use Rattle.sets.proofs.MemberLaws.{Next, Last, passed, passed-none, passed-more, listed-next, listed-last}
 use Rattle.record.specs.declared.Record.{Record}
 use Rattle.record.specs.Records.{wholeRecordAt}
+use Rattle.questions.specs.Bounds.{mostYards}
 use Rattle.questions.specs.Sheet.{records, haul, instanceBy}
 use Rattle.questions.specs.Shape.{Shape}
 use Rattle.sheet.specs.Stretch.{stretch}
 use Rattle.record.proofs.RecordLaws.{eight-bytes}
 use Rattle.sheet.proofs.FarmLaws.{stretch-length, stretch-record}
 use Rattle.price.specs.declared.nearest.Nearest.{Nearest}
-use Rattle.price.specs.Nearest.{near, nearestBelow, closer, amountAt, nearestOn}
+use Rattle.price.specs.Nearest.{near, nearestBelow, closer, amountAt, nearestOn, haulStep}
 
 -- ---- one yard against the nearest so far
 
@@ -76,19 +77,19 @@ pub nearest-gap : (S : ℕ → Bool) (v : ℕ → ℕ) (i k : ℕ) → i ≤ k �
 unfolding nearestBelow
 nearest-gap S v i k h none = rw (any-gap S i k h none, arg-gap S i k h none v, least-gap S i k h none v)
 
--- ---- a yard and its haul in one number: the haul from bit 32 on, the yard below
+-- ---- a yard and its haul in one number
 
 abbrev pub haulTo : ℕ → ℕ → ℕ
-haulTo haul yard = 4294967296 * haul + yard
+haulTo haul yard = haulStep * haul + yard
 
 -- the number of the nearest yard b, where there is one
-pub record Holds (b : Nearest) (number : ℕ) : Type 0 where
+pub record InOneNumber (b : Nearest) (number : ℕ) : Type 0 where
   pub found : b .found ≡ true
   pub is : number ≡ haulTo (b .haul) (b .yard)
 
 -- the lesser of the numbers is that of the nearer yard, where the yards rise
-holds-more : (yard haul number : ℕ) (b : Nearest) → Holds b number → b .yard ≤ yard → yard < 4294967296
-    → Holds (closer true yard haul b) (min (haulTo haul yard) number)
+holds-more : (yard haul number : ℕ) (b : Nearest) → InOneNumber b number → b .yard ≤ yard → yard < haulStep
+    → InOneNumber (closer true yard haul b) (min (haulTo haul yard) number)
 holds-more yard haul number b h rises small =
     cases (leb (b .haul) haul)
     (λ e. let stays = leb-true (b .haul) haul e in
@@ -102,8 +103,8 @@ holds-more yard haul number b h rises small =
 -- ---- a loop over the listed yards of a set: the yards below p are passed
 
 module _ (set : ℕ) (v : ℕ → ℕ) where
-  abbrev pub Passed : ℕ → ℕ → Type 0
-  Passed p number = Holds (nearestBelow p (member set) v) number
+  abbrev pub LeastPassed : ℕ → ℕ → Type 0
+  LeastPassed p number = InOneNumber (nearestBelow p (member set) v) number
 
   module _ (m p x : ℕ) (next : Next set m p x) where
     turn : nearestBelow (x + 1) (member set) v ≡ closer true x (v x) (nearestBelow p (member set) v)
@@ -111,12 +112,12 @@ module _ (set : ℕ) (v : ℕ → ℕ) where
         nearest-more (member set) v x
         ∙ ap₂ (λ b near. closer b x (v x) near) (next .is-in) (nearest-gap (member set) v p x (next .rises) (next .none))
 
-    pub passed-first : p ≡ 0 → Passed (x + 1) (haulTo (v x) x)
+    pub passed-first : p ≡ 0 → LeastPassed (x + 1) (haulTo (v x) x)
     passed-first e =
         let none : nearestBelow p (member set) v ≡ near false 0 0 = rw e (sym (nearest-none (member set) v)) in
         rw (turn, none, ← closer-first true x (v x) (near false 0 0) refl refl) (record { found = refl; is = refl })
 
-    pub passed-next : x < 4294967296 → (number : ℕ) → Passed p number → Passed (x + 1) (min (haulTo (v x) x) number)
+    pub passed-next : x < haulStep → (number : ℕ) → LeastPassed p number → LeastPassed (x + 1) (min (haulTo (v x) x) number)
     unfolding nearestBelow
     passed-next small number h =
         rw turn (holds-more x (v x) number (nearestBelow p (member set) v) h (omega (arith, arg-le p (member set) v, next .rises)) small)
@@ -125,14 +126,14 @@ module _ (set : ℕ) (v : ℕ → ℕ) where
     pub passed-nothing : p ≡ 0 → near false 0 0 ≡ nearestBelow m (member set) v
     passed-nothing e = rw (nearest-gap (member set) v p m (last .within) (last .none), e) (nearest-none (member set) v)
 
-    pub passed-all : p ≤ 32 → (number : ℕ) → Passed p number
-        → near true (number % 4294967296) (number / 4294967296) ≡ nearestBelow m (member set) v
+    pub passed-all : p ≤ 32 → (number : ℕ) → LeastPassed p number
+        → near true (number % haulStep) (number / haulStep) ≡ nearestBelow m (member set) v
     unfolding nearestBelow
     passed-all few number h =
         let b = nearestBelow p (member set) v in
         let small : b .yard ≤ 32 = omega (arith, arg-le p (member set) v) in
-        let yard : number % 4294967296 ≡ b .yard = omega (arith, h .is) in
-        let haul : number / 4294967296 ≡ b .haul = omega (arith, h .is) in
+        let yard : number % haulStep ≡ b .yard = omega (arith, h .is) in
+        let haul : number / haulStep ≡ b .haul = omega (arith, h .is) in
         rw (yard, haul, ← h .found) (sym (nearest-gap (member set) v p m (last .within) (last .none)))
 
   -- no set of 32 bits has a yard from 32 on
@@ -149,11 +150,11 @@ part-amount bytes part i r room cut read = ap (λ (x : Record). x .amount) (read
 -- ---- the loop over the listed yards of a set on a stretch of the sheet
 
 -- the number after t of the yards: the highest before the first, then that of the nearest
-pub record Least (bytes yards : List ℕ) (set t k : ℕ) : Type 0 where
+pub record LeastSoFar (bytes yards : List ℕ) (set t k : ℕ) : Type 0 where
   pub begins : t ≡ 0 → k ≡ 18446744073709551615
-  pub holds : 0 < t → Passed set (amountAt bytes) (passed yards t) k
+  pub holds : 0 < t → LeastPassed set (amountAt bytes) (passed yards t) k
 
-pub least-none : (bytes yards : List ℕ) (set : ℕ) → Least bytes yards set 0 18446744073709551615
+pub least-none : (bytes yards : List ℕ) (set : ℕ) → LeastSoFar bytes yards set 0 18446744073709551615
 least-none bytes yards set = record { begins = λ e. refl; holds = λ some. absurd (omega arith) }
 
 module _ (bytes yards : List ℕ) (set : ℕ) (e : yards ≡ risingBelow (min (records bytes) 32) set) where
@@ -177,26 +178,26 @@ module _ (bytes yards : List ℕ) (set : ℕ) (e : yards ≡ risingBelow (min (r
       (ap (passed yards) none ∙ passed-none yards) ∙ all small
 
   first-listed : 0 < length yards → (r : ℕ) → r ≡ haulTo (amountAt bytes (getD yards 0 0)) (getD yards 0 0)
-      → Passed set (amountAt bytes) (passed yards 1) r
+      → LeastPassed set (amountAt bytes) (passed yards 1) r
   first-listed some r er =
       rw (er, passed-more yards 0) (passed-first set (amountAt bytes) (min (records bytes) 32) (passed yards 0) (getD yards 0 0) (next 0 some) (passed-none yards))
 
   next-listed : (t : ℕ) → t < length yards → (r k q : ℕ) → r ≡ haulTo (amountAt bytes (getD yards t 0)) (getD yards t 0)
-      → q ≡ min r k → Passed set (amountAt bytes) (passed yards t) k → Passed set (amountAt bytes) (passed yards (t + 1)) q
+      → q ≡ min r k → LeastPassed set (amountAt bytes) (passed yards t) k → LeastPassed set (amountAt bytes) (passed yards (t + 1)) q
   next-listed t l r k q er eq h =
       rw (eq, er, passed-more yards t) (passed-next set (amountAt bytes) (min (records bytes) 32) (passed yards t) (getD yards t 0) (next t l)
       (omega (arith, next t l .below)) k h)
 
   pub more-listed : (t : ℕ) → t < length yards → (r k q : ℕ) → r < 2 ^ 64 → r ≡ haulTo (amountAt bytes (getD yards t 0)) (getD yards t 0)
-      → q ≡ min r k → Least bytes yards set t k → Least bytes yards set (t + 1) q
+      → q ≡ min r k → LeastSoFar bytes yards set t k → LeastSoFar bytes yards set (t + 1) q
   more-listed zero l r k q small er eq h =
       let first : q ≡ r = omega (arith, h .begins refl) in
       record { begins = λ e. absurd (omega arith); holds = λ some. rw first (first-listed l r er) }
   more-listed (suc t) l r k q small er eq h =
       record { begins = λ e. absurd (omega arith); holds = λ some. next-listed (suc t) l r k q er eq (h .holds (omega arith)) }
 
-  pub all-listed : set < 2 ^ 32 → 0 < length yards → (t k : ℕ) → t ≡ length yards → Least bytes yards set t k
-      → near true (k % 4294967296) (k / 4294967296) ≡ nearestOn bytes set
+  pub all-listed : set < 2 ^ 32 → 0 < length yards → (t k : ℕ) → t ≡ length yards → LeastSoFar bytes yards set t k
+      → near true (k % haulStep) (k / haulStep) ≡ nearestOn bytes set
   all-listed small some t k done h =
       passed-all set (amountAt bytes) (min (records bytes) 32) (passed yards (length yards)) last
       (omega (arith, last .within)) k (rw done at h .holds (omega arith)) ∙ all small
@@ -229,6 +230,6 @@ module _ (s : List ℕ) (m n p : ℕ) (f : Shape s m n) (below : p < n) (set : �
   unfolding nearestBelow assigned instanceBy
   farm-yard = ap (λ (r : Nearest). r .yard) farm-nearest
 
-  pub farm-yard-small : nearestOn (stretch s m p) set .yard ≤ 32
+  pub farm-yard-small : nearestOn (stretch s m p) set .yard ≤ mostYards
   unfolding assigned instanceBy
   farm-yard-small = omega (arith, farm-yard, arg-le m (member set) (λ i. haul s m i p), f .few-yards)

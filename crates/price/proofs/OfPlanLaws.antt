@@ -10,13 +10,14 @@ use Rattle.model.specs.Sets.{member}
 use Rattle.model.specs.Instance.{Instance, totalCost}
 use Rattle.model.proofs.Bools.{and-right}
 use Rattle.record.specs.Records.{splice}
+use Rattle.questions.specs.Bounds.{mostYards}
 use Rattle.questions.specs.Answers.{Answer, accepted}
 use Rattle.questions.specs.Sheet.{yards, instanceOf}
 use Rattle.questions.specs.Reading.{reading}
-use Rattle.questions.proofs.ReadingLaws.{same-result, apart, asked, read-first}
+use Rattle.questions.proofs.ReadingLaws.{same-result, not-both, asked, read-first}
 use Rattle.questions.proofs.AcceptedLaws.{accepts, door, facilities-are}
 use Rattle.price.specs.Plan.{planBytes, question9, planSet}
-use Rattle.price.specs.Pricing.{Result, Plan, plan, meaning, answer, areaAfter, OfPlan, question8, pricing, SetKept}
+use Rattle.price.specs.Pricing.{Result, Plan, plan, plannedAnswer, answer, areaAfter, OfPlan, question8, pricing, SetKept}
 use Rattle.price.specs.declared.Planned.{Planned}
 use Rattle.price.specs.declared.Planned.the-variants.{Written, Refused}
 use Rattle.price.proofs.PricingLaws.{answered}
@@ -28,7 +29,7 @@ pub record PlanOf (set : ℕ) (p : Plan) : Type 0 where
   pub total : ℕ
   pub moves : ℕ
   pub is : p ≡ plan instance set total moves
-  pub few : instance .facilities ≤ 32
+  pub few : instance .facilities ≤ mostYards
   pub small : set < 2 ^ instance .facilities
 
 -- ---- the set in the area, and in the bytes that the call says it wrote
@@ -44,11 +45,11 @@ module _ (outcome : Answer Plan) (p : Plan) (set : ℕ) (e : outcome ≡ accepte
 
 -- the call answers as the outcome says
 module _ (outcome : Answer Plan) (r : Planned) (area next : List ℕ)
-    (says : meaning r ≡ answer outcome) (leaves : next ≡ areaAfter outcome area) where
+    (says : plannedAnswer r ≡ answer outcome) (leaves : next ≡ areaAfter outcome area) where
   -- what holds of the set of every plan that a call can make holds of the set that is read off the area at its exit
   pub of-plan : (P : ℕ → Type 0) → ((p : Plan) → outcome ≡ accepted p → (set : ℕ) × PlanOf set p × P set) → OfPlan r next P
   of-plan P made bytes moves e =
-      let a = answered outcome _ (sym (ap meaning e) ∙ says) in
+      let a = answered outcome _ (sym (ap plannedAnswer e) ∙ says) in
       let f = made (a .0) (a .1) in
       let there : planSet next bytes ≡ f .0 =
       ap₂ planSet leaves (ap (λ (x : Result). x .bytes) (a .2)) ∙ set-read-off outcome (a .0) (f .0) (a .1) (f .1) area in
@@ -59,11 +60,11 @@ module _ (outcome : Answer Plan) (r : Planned) (area next : List ℕ)
   unfolding answer
   promised P h p e set f = go r says h
     where
-      go : (w : Planned) → meaning w ≡ answer outcome → OfPlan w next P → P set
+      go : (w : Planned) → plannedAnswer w ≡ answer outcome → OfPlan w next P → P set
       go (Written bytes moves) told hold =
           let long : bytes ≡ length (p .bytes) = ap (λ (x : Result). x .bytes) (same-result (told ∙ ap answer e)) in
           subst P (ap₂ planSet leaves long ∙ set-read-off outcome p set e f area) (hold bytes moves refl)
-      go (Refused k) told hold = absurd (apart (sym (told ∙ ap answer e)))
+      go (Refused k) told hold = absurd (not-both (sym (told ∙ ap answer e)))
 
 -- ---- pricing
 
@@ -89,8 +90,8 @@ module _ (s : List ℕ) (set room : ℕ) (p : Plan) (h : pricing s set room ≡ 
 
 -- all that pricing promises, from its two equations
 pub pricing-promises : (s : List ℕ) (set : ℕ) (r : Planned) (area next : List ℕ)
-    → (meaning r ≡ answer (pricing s set (length area))) × (next ≡ areaAfter (pricing s set (length area)) area)
-    → (meaning r ≡ answer (pricing s set (length area))) × ((next ≡ areaAfter (pricing s set (length area)) area) × SetKept set r next)
+    → (plannedAnswer r ≡ answer (pricing s set (length area))) × (next ≡ areaAfter (pricing s set (length area)) area)
+    → (plannedAnswer r ≡ answer (pricing s set (length area))) × ((next ≡ areaAfter (pricing s set (length area)) area) × SetKept set r next)
 pricing-promises s set r area next h = (
   h .0,
   (

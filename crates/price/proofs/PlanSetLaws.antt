@@ -20,7 +20,8 @@ use Rattle.model.proofs.SetLaws.{member-below, member-sum}
 use Rattle.record.specs.Records.{recordAt, bytesOf, splice}
 use Rattle.record.specs.declared.Record.{Record}
 use Rattle.record.proofs.SpliceLaws.{length-bytes, splice-front}
-use Rattle.price.specs.Plan.{openRecord, farmRecord, totalRecord, movesRecord, planBytes, opensAt, planSet}
+use Rattle.questions.specs.Bounds.{mostYards}
+use Rattle.price.specs.Plan.{openRecord, farmRecord, totalRecord, movesRecord, planBytes, opensAt, planSet, openKind}
 
 -- ---- what whole records show of one yard
 
@@ -41,7 +42,7 @@ module _ (yard : ℕ) where
   opens-behind xs ys k i e =
       let kind-at : 8 * (k + i) ≡ length xs + 8 * i = omega arith in
       let yard-at : 8 * (k + i) + 1 ≡ length xs + (8 * i + 1) = omega arith in
-      ap₂ (λ (a b : ℕ). eqb a 0x4F && eqb b yard)
+      ap₂ (λ (a b : ℕ). eqb a openKind && eqb b yard)
       (ap (λ (n : ℕ). getD (xs ++ ys) n 0) kind-at ∙ getD-append-add xs ys (8 * i) 0)
       (ap (λ (n : ℕ). getD (xs ++ ys) n 0) yard-at ∙ getD-append-add xs ys (8 * i + 1) 0)
 
@@ -54,9 +55,9 @@ module _ (yard : ℕ) where
   unfolding any
   shows-none = record { records = 0; whole = refl; reads = refl }
 
-  shows-record : (r : Record) → Shows (bytesOf r) (eqb (r .kind) 0x4F && eqb (r .yard) yard)
+  shows-record : (r : Record) → Shows (bytesOf r) (eqb (r .kind) openKind && eqb (r .yard) yard)
   unfolding any opensAt recordAt bytesOf
-  shows-record r = record { records = 1; whole = length-bytes r; reads = or-false (eqb (r .kind) 0x4F && eqb (r .yard) yard) }
+  shows-record r = record { records = 1; whole = length-bytes r; reads = or-false (eqb (r .kind) openKind && eqb (r .yard) yard) }
 
   shows-append : (xs ys : List ℕ) (a b : Bool) → Shows xs a → Shows ys b → Shows (xs ++ ys) (b || a)
   shows-append xs ys a b x y =
@@ -120,9 +121,9 @@ module _ (I : Instance) (set total moves : ℕ) (area : List ℕ) where
       let count : length bytes / 8 ≡ shown .records = omega (arith, shown .whole) in
       rw (splice-front area bytes, count) (reads-before yard bytes (drop (length bytes) area) (member set yard) shown)
 
-  pub plan-set : I .facilities ≤ 32 → set < 2 ^ I .facilities
+  pub plan-set : I .facilities ≤ mostYards → set < 2 ^ I .facilities
       → planSet (splice area 0 (planBytes I set total moves)) (length (planBytes I set total moves)) ≡ set
   unfolding planSet
   plan-set few small =
-      sum-cong 32 (λ yard l. ap (λ (b : Bool). on b (2 ^ yard)) (plan-opens yard small))
-      ∙ member-sum 32 set (omega (arith, pow-mono {i = I .facilities} {j = 32} few))
+      sum-cong mostYards (λ yard l. ap (λ (b : Bool). on b (2 ^ yard)) (plan-opens yard small))
+      ∙ member-sum mostYards set (omega (arith, pow-mono {i = I .facilities} {j = mostYards} few))

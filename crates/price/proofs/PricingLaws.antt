@@ -12,18 +12,18 @@ use Rattle.model.specs.Sets.{member}
 use Rattle.model.specs.Instance.{totalCost}
 use Rattle.model.proofs.Bools.{fails, and-left, and-right, and-both}
 use Rattle.model.proofs.SetLaws.{some-member, member-some, member-below, below-pow}
-use Rattle.record.specs.Records.{splice}
+use Rattle.record.specs.Records.{splice, amountEnd}
 use Rattle.questions.specs.Answers.{Answer, accepted, refused}
 use Rattle.questions.specs.Sheet.{instanceBy, instanceOf}
 use Rattle.questions.specs.Shape.{Shape}
 use Rattle.questions.specs.Reading.{counts, reading}
-use Rattle.questions.proofs.ReadingLaws.{same-result, apart}
+use Rattle.questions.proofs.ReadingLaws.{same-result, not-both}
 use Rattle.questions.proofs.AcceptedLaws.{shape-of, instance-is, accepts, door}
 use Rattle.questions.proofs.CostBounds.{total-fits}
 use Rattle.price.specs.Plan.{planBytes, question9, writing}
-use Rattle.price.specs.Pricing.{Result, result, Plan, plan, meaning, answer, areaAfter, question8, pricing}
+use Rattle.price.specs.Pricing.{Result, result, Plan, plan, plannedAnswer, answer, areaAfter, question8, pricing}
 use Rattle.price.specs.declared.Planned.{Planned}
-use Rattle.price.proofs.PlanLaws.{fits-within, writes-plan}
+use Rattle.price.proofs.PlanRecordLaws.{fits-within, writes-plan}
 
 -- ---- what a call answers and leaves: its number and the area as it was, or the plan at the area's front
 
@@ -43,7 +43,7 @@ pub answered : (outcome : Answer Plan) (r : Result) → accepted r ≡ answer ou
     → (p : Plan) × (outcome ≡ accepted p) × (r ≡ result (length (p .bytes)) (p .moves))
 unfolding answer
 answered (accepted p) r h = (p, refl, same-result h)
-answered (refused k) r h = absurd (apart h)
+answered (refused k) r h = absurd (not-both h)
 
 -- ---- question 8 in readable form, both ways: some yard below m is marked, and none from m on
 
@@ -91,7 +91,7 @@ module _ (s : List ℕ) (m n set total : ℕ) (e : reading s ≡ accepted (count
   total-is = t ∙ ap (λ I. totalCost I (member set)) (instance-is (accepts s m n e .has))
 
   -- a full cost fits an amount
-  pub total-small : total < 2 ^ 32
+  pub total-small : total < amountEnd
   total-small = rw total-is (total-fits (instanceOf s) (door s m n e) (member set))
 
   -- pricing that passes its questions writes the plan of the set
@@ -107,5 +107,5 @@ module _ (s : List ℕ) (m n set total : ℕ) (e : reading s ≡ accepted (count
 
 -- what a call answers and leaves, by another name for its outcome
 pub as-outcome : {outcome other : Answer Plan} → other ≡ outcome → (r : Planned) (area next : List ℕ)
-    → (meaning r ≡ answer other) × (next ≡ areaAfter other area) → (meaning r ≡ answer outcome) × (next ≡ areaAfter outcome area)
-as-outcome e r area next h = subst (λ o. (meaning r ≡ answer o) × (next ≡ areaAfter o area)) e h
+    → (plannedAnswer r ≡ answer other) × (next ≡ areaAfter other area) → (plannedAnswer r ≡ answer outcome) × (next ≡ areaAfter outcome area)
+as-outcome e r area next h = subst (λ o. (plannedAnswer r ≡ answer o) × (next ≡ areaAfter o area)) e h

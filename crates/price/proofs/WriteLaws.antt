@@ -28,13 +28,13 @@ put-two area next last at r q t u room e put e′ put′ =
 
 module _ (f : ℕ → List ℕ) (area₀ : List ℕ) (start : ℕ) where
   -- the area with the first i parts behind the start, and the offset behind them
-  pub record Filled (area : List ℕ) (at i : ℕ) : Type 0 where
+  pub record PutSoFar (area : List ℕ) (at i : ℕ) : Type 0 where
     pub at-is : at ≡ start + length (join i f)
     pub few : at ≤ start + 8 * i
     pub long : length area ≡ length area₀
     pub parts : area ≡ splice area₀ start (join i f)
 
-  pub filled-none : Filled area₀ start 0
+  pub filled-none : PutSoFar area₀ start 0
   filled-none =
       record {
         at-is = rw join-none (omega arith);
@@ -43,8 +43,8 @@ module _ (f : ℕ → List ℕ) (area₀ : List ℕ) (start : ℕ) where
         parts = rw join-none (sym (splice-none area₀ start));
       }
 
-  pub filled-more : (area next : List ℕ) (at end i : ℕ) → Filled area at i → length (f i) ≤ 8 → start + 8 * i + 8 ≤ length area₀
-      → end ≡ at + length (f i) → next ≡ splice area at (f i) → Filled next end (i + 1)
+  pub filled-more : (area next : List ℕ) (at end i : ℕ) → PutSoFar area at i → length (f i) ≤ 8 → start + 8 * i + 8 ≤ length area₀
+      → end ≡ at + length (f i) → next ≡ splice area at (f i) → PutSoFar next end (i + 1)
   filled-more area next at end i h short room e put =
       let more : length (join (i + 1) f) ≡ length (join i f) + length (f i) = rw (join-more, length-append) in
       record {
@@ -57,6 +57,6 @@ module _ (f : ℕ → List ℕ) (area₀ : List ℕ) (start : ℕ) where
       }
 
   -- parts that are empty need no turn
-  pub filled-same : (area : List ℕ) (at i k : ℕ) → i ≤ k → join k f ≡ join i f → Filled area at i → Filled area at k
+  pub filled-same : (area : List ℕ) (at i k : ℕ) → i ≤ k → join k f ≡ join i f → PutSoFar area at i → PutSoFar area at k
   filled-same area at i k up same h =
       record { at-is = rw same (h .at-is); few = omega (arith, h .few); long = h .long; parts = rw same (h .parts) }

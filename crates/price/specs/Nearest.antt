@@ -1,5 +1,5 @@
 -- The nearest open yard: the smallest haul, the lowest number among equals (document 01, "Price, start, moves").
-use Prim.Native.Nat.{ℕ}
+use Prim.Native.Nat.{ℕ, _^_}
 use mathlib.Core.Bool.{Bool, true, cond, not, _&&_, _||_}
 use mathlib.Core.List.{List}
 use lib.Dec.{ltb}
@@ -19,6 +19,11 @@ nearestBelow m S haul = near (any m S) (arg m S haul) (least m S haul)
 -- a yard, where it is open and nearer than b, else b
 unfoldable pub closer : Bool → ℕ → ℕ → Nearest → Nearest
 closer isOpen yard haul b = cond (isOpen && (not (b .found) || ltb haul (b .haul))) (near true yard haul) b
+
+-- A haul and its yard stand in one number, the haul times this and the yard, so that the lesser of two has the smaller haul or, among equals, the
+-- lower yard.
+abbrev pub haulStep : ℕ
+haulStep = 2 ^ 32
 
 -- the amount of record i
 unfoldable pub amountAt : List ℕ → ℕ → ℕ

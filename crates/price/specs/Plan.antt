@@ -9,23 +9,37 @@ use Rattle.model.specs.Least.{any}
 use Rattle.model.specs.Sets.{count, member}
 use Rattle.model.specs.Instance.{Instance, nearest, assigned}
 use Rattle.record.specs.Records.{recordOf, recordAt, bytesOf}
+use Rattle.questions.specs.Bounds.{mostYards, mostFarms}
 use Rattle.questions.specs.Sheet.{instanceBy}
+
+-- the kinds of a plan's records
+abbrev pub openKind : ℕ
+openKind = 0x4F
+
+abbrev pub farmKind : ℕ
+farmKind = 0x41
+
+abbrev pub totalKind : ℕ
+totalKind = 0x54
+
+abbrev pub movesKind : ℕ
+movesKind = 0x4D
 
 -- "One of kind 4F hex for each open yard by number (byte 1 yard, amount its fee)."
 unfoldable pub openRecord : Instance → ℕ → ℕ → List ℕ
-openRecord I set i = cond (member set i) (bytesOf (recordOf 0x4F i 0 0 (I .opening i))) []
+openRecord I set i = cond (member set i) (bytesOf (recordOf openKind i 0 0 (I .opening i))) []
 
 -- "One of kind 41 hex for each farm by number (byte 1 its yard, byte 2 the farm, amount its haul)."
 unfoldable pub farmRecord : Instance → ℕ → ℕ → List ℕ
-farmRecord I set j = bytesOf (recordOf 0x41 (assigned I (member set) j) j 0 (nearest I (member set) j))
+farmRecord I set j = bytesOf (recordOf farmKind (assigned I (member set) j) j 0 (nearest I (member set) j))
 
 -- "One of kind 54 hex (byte 1 the count of open yards, byte 2 n, amount the total)."
 unfoldable pub totalRecord : Instance → ℕ → ℕ → List ℕ
-totalRecord I set total = bytesOf (recordOf 0x54 (count (I .facilities) (member set)) (I .clients) 0 total)
+totalRecord I set total = bytesOf (recordOf totalKind (count (I .facilities) (member set)) (I .clients) 0 total)
 
 -- "One of kind 4D hex (amount the moves made)."
 unfoldable pub movesRecord : ℕ → List ℕ
-movesRecord moves = bytesOf (recordOf 0x4D 0 0 0 moves)
+movesRecord moves = bytesOf (recordOf movesKind 0 0 0 moves)
 
 -- "Records as above, in this order."
 unfoldable pub planBytes : Instance → ℕ → ℕ → ℕ → List ℕ
@@ -38,7 +52,7 @@ question9 m n room = leb (8 * (m + n + 2)) room
 
 -- the same, for counts that need not be those of an accepted sheet
 unfoldable pub planFits : ℕ → ℕ → ℕ → Bool
-planFits m n room = leb m 32 && (leb n 128 && question9 m n room)
+planFits m n room = leb m mostYards && (leb n mostFarms && question9 m n room)
 
 -- the plan of a set on a sheet of m yards and n farms; nothing where the sheet has not so many records or the area is too small
 unfoldable pub writing : List ℕ → ℕ → ℕ → ℕ → ℕ → ℕ → ℕ → List ℕ
@@ -47,8 +61,8 @@ writing s m n set total moves room =
 
 -- "Ours is the yards in the plan's records of kind 4F": is record i of the area one for this yard
 unfoldable pub opensAt : List ℕ → ℕ → ℕ → Bool
-opensAt area yard i = eqb (recordAt area i .kind) 0x4F && eqb (recordAt area i .yard) yard
+opensAt area yard i = eqb (recordAt area i .kind) openKind && eqb (recordAt area i .yard) yard
 
 -- the yards in the records of kind 4F among so many bytes written, as a set
 unfoldable pub planSet : List ℕ → ℕ → ℕ
-planSet area bytes = sum 32 (λ yard. on (any (bytes / 8) (opensAt area yard)) (2 ^ yard))
+planSet area bytes = sum mostYards (λ yard. on (any (bytes / 8) (opensAt area yard)) (2 ^ yard))

@@ -24,9 +24,9 @@ abbrev pub result : ℕ → ℕ → Result
 result bytes moves = record { bytes = bytes; moves = moves }
 
 -- document 01's answer in each case of the code's enum
-abbrev pub meaning : Planned → Answer Result
-meaning (Written bytes moves) = accepted (result bytes moves)
-meaning (Refused k) = refused k
+abbrev pub plannedAnswer : Planned → Answer Result
+plannedAnswer (Written bytes moves) = accepted (result bytes moves)
+plannedAnswer (Refused k) = refused k
 
 -- a plan: its records as bytes, and the moves made
 pub record Plan : Type 0 where

@@ -16,7 +16,8 @@ pub use plan::write_plan;
 ghost use mathlib.Core.Path.{_≡_};
 ghost use Prim.Native.Nat.{_≤_};
 ghost use lib.ListN.{length};
-ghost use Rattle.price.specs.Pricing.{meaning, answer, areaAfter, question8, pricing, SetKept};
+ghost use Rattle.questions.specs.Bounds.{mostYards};
+ghost use Rattle.price.specs.Pricing.{plannedAnswer, answer, areaAfter, question8, pricing, SetKept};
 use sheet::Reading;
 
 // What a call that writes a plan answers: the bytes written and the moves made, or the number of the first question that is
@@ -29,7 +30,7 @@ pub enum Planned {
 // Prices a set of yards, of which bit i marks yard i, and writes its plan to the front of the area. A refused call leaves the
 // area as it was.
 pub fn price(sheet: &[u8], set: u32, area: &mut [u8]) -> Planned
-    ensures answer { λ r. ⌜ meaning r ≡ answer (pricing (now (sheet .entry)) set (length (now (area .entry)))) ⌝ }
+    ensures answer { λ r. ⌜ plannedAnswer r ≡ answer (pricing (now (sheet .entry)) set (length (now (area .entry)))) ⌝ }
     ensures area { λ r. ⌜ now (area .exit) ≡ areaAfter (pricing (now (sheet .entry)) set (length (now (area .entry)))) (now (area .entry)) ⌝ }
     ensures kept { λ r. ⌜ SetKept set r (now (area .exit)) ⌝ }
 {
@@ -43,17 +44,23 @@ pub fn price(sheet: &[u8], set: u32, area: &mut [u8]) -> Planned
             if !fits {
                 return Planned::Refused(9);
             }
-            let body = plan::put_body(sheet, yards, farms, set, area);
-            let bytes = plan::put_end(body.open_yards, farms, body.cost as u32, 0, area);
+            let totals = plan::put_yards_and_farms(sheet, yards, farms, set, area);
+            let bytes = plan::put_total_and_moves(
+                totals.open_yards,
+                farms,
+                totals.cost as u32,
+                0,
+                area,
+            );
             Planned::Written { bytes, moves: 0 }
         }
-        Reading::Refused(k) => Planned::Refused(k),
+        Reading::Refused(number) => Planned::Refused(number),
     }
 }
 
 // Question 8, of a sheet of m yards.
 fn set_good(m: usize, set: u32) -> bool
-    requires { ⌜ m ≤ 32 ⌝ }
+    requires { ⌜ m ≤ mostYards ⌝ }
     ensures { λ r. ⌜ r ≡ question8 m set ⌝ }
 {
     1 <= set && (set as u64) < 1u64 << (m as u64)

@@ -4,13 +4,13 @@ ghost use Prim.Native.Nat.{_+_, _*_, _≤_, min};
 ghost use lib.ListN.{length};
 ghost use Rattle.sets.specs.Members.{risingBelow};
 ghost use Rattle.questions.specs.Sheet.{records};
-ghost use Rattle.price.specs.Nearest.{amountAt, nearestOn};
+ghost use Rattle.price.specs.Nearest.{haulStep, amountAt, nearestOn};
 use record::Record;
 
-// What the part of a number counts for that begins at bit 32.
-const BIT_32: u64 = 4294967296;
+// A haul and its yard stand in one number: the haul times this, and the yard.
+const HAUL_STEP: u64 = 4294967296;
 
-// No haul and number in one is above this.
+// No such number is above this.
 const HIGHEST: u64 = 18446744073709551615;
 
 pub struct Nearest {
@@ -49,19 +49,19 @@ pub(crate) fn nearest_of(hauls: &[u8], set: u32, yards: &[u8]) -> Nearest
     }
     Nearest {
         found: true,
-        yard: (least % BIT_32) as usize,
-        haul: (least / BIT_32) as u32,
+        yard: (least % HAUL_STEP) as usize,
+        haul: (least / HAUL_STEP) as u32,
     }
 }
 
 // A yard's haul and its number in one: of two yards the nearer has the lesser, or the lower number where the hauls are equal.
 fn haul_to(hauls: &[u8], yard: u8) -> u64
     requires { ⌜ 8 * yard + 8 ≤ length (now hauls) ⌝ }
-    ensures { λ r. ⌜ r ≡ 4294967296 * amountAt (now (hauls .entry)) yard + yard ⌝ }
+    ensures { λ r. ⌜ r ≡ haulStep * amountAt (now (hauls .entry)) yard + yard ⌝ }
 {
     let from = Record::LEN * (yard as usize);
     let record = Record::at(&hauls[from..from + Record::LEN], 0);
-    BIT_32 * (record.amount as u64) + (yard as u64)
+    HAUL_STEP * (record.amount as u64) + (yard as u64)
 }
 
 fn lesser(a: u64, b: u64) -> u64

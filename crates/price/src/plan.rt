@@ -4,14 +4,15 @@ ghost use Prim.Native.Nat.{_+_, _*_, _≤_, _<_};
 ghost use mathlib.Core.Bool.{true};
 ghost use mathlib.Core.List.{_++_};
 ghost use lib.ListN.{length};
-ghost use Rattle.model.specs.Loops.{join};
+ghost use Rattle.model.specs.Loops.{mostTerm, join};
 ghost use Rattle.model.specs.Sets.{count, member};
 ghost use Rattle.model.specs.Instance.{nearest, openingCost, serviceCost, totalCost};
 ghost use Rattle.sets.specs.Members.{risingBelow};
 ghost use Rattle.record.specs.Records.{recordOf, bytesOf, splice};
+ghost use Rattle.questions.specs.Bounds.{mostYards, mostFarms};
 ghost use Rattle.questions.specs.Sheet.{fee, instanceBy};
 ghost use Rattle.questions.specs.Shape.{Shape};
-ghost use Rattle.price.specs.Plan.{openRecord, farmRecord, movesRecord, planFits, writing};
+ghost use Rattle.price.specs.Plan.{totalKind, openRecord, farmRecord, movesRecord, planFits, writing};
 use crate::nearest::nearest_of;
 use record::Record;
 use sheet::MOST_FARMS;
@@ -25,8 +26,8 @@ pub const KIND_TOTAL: u8 = 0x54;
 
 pub const KIND_MOVES: u8 = 0x4D;
 
-// What the records before a plan's last two hold: so many open yards, at a full cost.
-pub(crate) struct Body {
+// What the set's records come to: so many open yards, at a full cost.
+pub(crate) struct Totals {
     pub(crate) open_yards: usize,
     pub(crate) cost: u64,
 }
@@ -64,13 +65,19 @@ pub fn write_plan(
     if sheet.len() < Record::LEN * (yards + farms * yards) {
         return 0;
     }
-    let body = put_body(sheet, yards, farms, set, area);
-    put_end(body.open_yards, farms, total, moves, area)
+    let totals = put_yards_and_farms(sheet, yards, farms, set, area);
+    put_total_and_moves(totals.open_yards, farms, total, moves, area)
 }
 
 // Writes the records of the open yards to the front of the area and those of the farms behind them, and gives the count of the
 // open yards and the full cost.
-pub(crate) fn put_body(sheet: &[u8], m: usize, n: usize, set: u32, area: &mut [u8]) -> Body
+pub(crate) fn put_yards_and_farms(
+    sheet: &[u8],
+    m: usize,
+    n: usize,
+    set: u32,
+    area: &mut [u8],
+) -> Totals
     requires { ⌜ Shape (now sheet) m n × (8 * (m + n) ≤ length (now area)) ⌝ }
     ensures open { λ r. ⌜ r .open_yards ≡ count m (member set) ⌝ }
     ensures cost { λ r. ⌜ r .cost ≡ totalCost (instanceBy (now (sheet .entry)) m n) (member set) ⌝ }
@@ -82,7 +89,7 @@ pub(crate) fn put_body(sheet: &[u8], m: usize, n: usize, set: u32, area: &mut [u
     let fees = put_opens(sheet, m, n, set, &list[..count], area);
     let from = Record::LEN * count;
     let hauls = put_farms(sheet, m, n, set, &list[..count], area, from);
-    Body {
+    Totals {
         open_yards: count,
         cost: fees + hauls,
     }
@@ -104,7 +111,7 @@ fn put_open(sheet: &[u8], m: usize, n: usize, set: u32, yard: u8, area: &mut [u8
 fn put_opens(sheet: &[u8], m: usize, n: usize, set: u32, yards: &[u8], area: &mut [u8]) -> u64
     requires { ⌜ Shape (now sheet) m n × (now yards ≡ risingBelow m set) × (8 * m ≤ length (now area)) ⌝ }
     ensures exact { λ r. ⌜ r ≡ openingCost (instanceBy (now (sheet .entry)) m n) (member set) ⌝ }
-    ensures small { λ r. ⌜ r ≤ m * 4294967296 ⌝ }
+    ensures small { λ r. ⌜ r ≤ m * mostTerm ⌝ }
     ensures area { λ r. ⌜ now (area .exit) ≡ splice (now (area .entry)) 0 (join m (openRecord (instanceBy (now (sheet .entry)) m n) set)) ⌝ }
 {
     let mut total: u64 = 0;
@@ -151,7 +158,7 @@ fn put_farms(
 ) -> u64
     requires { ⌜ Shape (now sheet) m n × (now yards ≡ risingBelow m set) × (from + 8 * n ≤ length (now area)) ⌝ }
     ensures exact { λ r. ⌜ r ≡ serviceCost (instanceBy (now (sheet .entry)) m n) (member set) ⌝ }
-    ensures small { λ r. ⌜ r ≤ n * 4294967296 ⌝ }
+    ensures small { λ r. ⌜ r ≤ n * mostTerm ⌝ }
     ensures area { λ r. ⌜ now (area .exit) ≡ splice (now (area .entry)) from (join n (farmRecord (instanceBy (now (sheet .entry)) m n) set)) ⌝ }
 {
     let mut total: u64 = 0;
@@ -174,16 +181,16 @@ fn put_farms(
 }
 
 // Writes the records of the total and of the moves behind those of the yards and the farms, and gives the offset after them.
-pub(crate) fn put_end(
+pub(crate) fn put_total_and_moves(
     open_yards: usize,
     farms: usize,
     total: u32,
     moves: u32,
     area: &mut [u8],
 ) -> usize
-    requires { ⌜ (open_yards ≤ 32) × (farms ≤ 128) × (8 * (open_yards + farms + 2) ≤ length (now area)) ⌝ }
+    requires { ⌜ (open_yards ≤ mostYards) × (farms ≤ mostFarms) × (8 * (open_yards + farms + 2) ≤ length (now area)) ⌝ }
     ensures next { λ r. ⌜ r ≡ 8 * (open_yards + farms + 2) ⌝ }
-    ensures area { λ r. ⌜ now (area .exit) ≡ splice (now (area .entry)) (8 * (open_yards + farms)) (bytesOf (recordOf 0x54 open_yards farms 0 total) ++ movesRecord moves) ⌝ }
+    ensures area { λ r. ⌜ now (area .exit) ≡ splice (now (area .entry)) (8 * (open_yards + farms)) (bytesOf (recordOf totalKind open_yards farms 0 total) ++ movesRecord moves) ⌝ }
 {
     let at = Record::LEN * (open_yards + farms);
     let sum = Record::new(KIND_TOTAL, open_yards as u8, farms as u8, 0, total);

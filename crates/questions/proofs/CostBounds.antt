@@ -1,5 +1,5 @@
 -- On an accepted sheet every set's costs fit the four bytes of an amount.
-use Prim.Native.Nat.{ℕ, _*_, _^_, _≤_, _<_}
+use Prim.Native.Nat.{ℕ, _*_, _≤_, _<_}
 use native.Mathlib.Nat.{le-trans, mul-le-mul-right}
 use native.Mathlib.Omega.{arith}
 use mathlib.Core.Bool.{Bool}
@@ -7,6 +7,7 @@ use Rattle.model.specs.Loops.{on}
 use Rattle.model.specs.Instance.{Instance, nearest, openingCost, serviceCost, totalCost}
 use Rattle.model.proofs.SumLaws.{sum-bound, on-le}
 use Rattle.model.proofs.LeastLaws.{least-bound}
+use Rattle.record.specs.Records.{amountEnd}
 use Rattle.questions.specs.Bounds.{mostYards, mostFarms, mostFee, mostHaul}
 use Rattle.questions.proofs.AcceptedLaws.{WithinBounds}
 
@@ -29,9 +30,9 @@ module _ (I : Instance) (w : WithinBounds I) (S : ℕ → Bool) where
       (sum-bound (I .clients) mostHaul (λ j. I .weight j * nearest I S j) (λ j l. rw (w .weight-one j) (omega (arith, nearest-within j l))))
       (mul-le-mul-right mostHaul (w .few-clients))
 
-  pub total-fits : totalCost I S < 2 ^ 32
+  pub total-fits : totalCost I S < amountEnd
   unfolding totalCost
   total-fits = omega (arith, opening-small, service-small)
 
-  pub service-fits : serviceCost I S < 2 ^ 32
+  pub service-fits : serviceCost I S < amountEnd
   service-fits = omega (arith, service-small)

@@ -33,9 +33,9 @@ module _ (s : List ℕ) (i : ℕ) (r : Record) (room : 8 * i + 8 ≤ length s) (
   unfolding numbered
   numbered-read = ap (λ (x : Record). eqb (x .yard) i) is-there
 
-  pub haul-read : (m p a : ℕ) → i ≡ place m p a → (eqb (r .yard) a && eqb (r .farm) p) ≡ haulInPlace s m p a
+  pub in-place-read : (m p a : ℕ) → i ≡ place m p a → (eqb (r .yard) a && eqb (r .farm) p) ≡ haulInPlace s m p a
   unfolding haulInPlace
-  haul-read m p a e = rw (← e) (ap (λ (x : Record). eqb (x .yard) a && eqb (x .farm) p) is-there)
+  in-place-read m p a e = rw (← e) (ap (λ (x : Record). eqb (x .yard) a && eqb (x .farm) p) is-there)
 
 module _ (s : List ℕ) where
   -- ---- question 1

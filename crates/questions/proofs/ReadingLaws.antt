@@ -41,18 +41,18 @@ pub same-result : {A : Type 0} {x y : A} → accepted x ≡ accepted y → x ≡
 same-result h = cc
 
 -- no answer is both
-pub apart : {A : Type 0} {x : A} {k : ℕ} → accepted x ≡ refused k → ⊥
-apart h = let z : _≡_ {A = ℕ} 0 1 = cc in omega arith
+pub not-both : {A : Type 0} {x : A} {k : ℕ} → accepted x ≡ refused k → ⊥
+not-both h = let z : _≡_ {A = ℕ} 0 1 = cc in omega arith
 
 -- a chain of questions that ends accepted had each answered yes
 pub asked : {A : Type 0} (b : Bool) (k : ℕ) (rest : Answer A) (x : A) → ask b k rest ≡ accepted x → (b ≡ true) × (rest ≡ accepted x)
 asked true k rest x h = (refl, h)
-asked false k rest x h = absurd (apart (sym h))
+asked false k rest x h = absurd (not-both (sym h))
 
 pub read-first : {A : Type 0} (r : Answer Counts) (f : Counts → Answer A) (x : A) → after r f ≡ accepted x
     → (c : Counts) × (r ≡ accepted c) × (f c ≡ accepted x)
 read-first (accepted c) f x h = (c, refl, h)
-read-first (refused k) f x h = absurd (apart (sym h))
+read-first (refused k) f x h = absurd (not-both (sym h))
 
 module _ (s : List ℕ) where
   -- ---- from the answers to the form, and to the reading
@@ -123,7 +123,7 @@ module _ (s : List ℕ) where
   pub refused-when : (k : ℕ) → reading s ≡ refused k → FirstNo s k
   refused-when k h =
       elim answered [
-        | inl y ↦ absurd (apart (sym (when-accepted y) ∙ h))
+        | inl y ↦ absurd (not-both (sym (when-accepted y) ∙ h))
         | inr f ↦ subst (FirstNo s) (same-number (sym (when-refused (f .0) (f .1)) ∙ h)) (f .1)
       ]
 
@@ -145,7 +145,7 @@ module _ (s : List ℕ) where
         | inl y ↦
             let e = same-result (sym (when-accepted y) ∙ h) in
             (y, ap (λ c. c .yards) e, ap (λ c. c .farms) e)
-        | inr f ↦ absurd (apart (sym h ∙ when-refused (f .0) (f .1)))
+        | inr f ↦ absurd (not-both (sym h ∙ when-refused (f .0) (f .1)))
       ]
 
   -- a sheet that the first four pass has the counts that it is read to have
@@ -155,10 +155,10 @@ module _ (s : List ℕ) where
       (y, ap (λ c. c .yards) e, ap (λ c. c .farms) e)
     where
       no-form : (k : ℕ) → FirstNo s k → Formed s
-      no-form k (by-1 a) = absurd (apart (sym h ∙ form-1 a))
-      no-form k (by-2 a b) = absurd (apart (sym h ∙ form-2 a b))
-      no-form k (by-3 a b c) = absurd (apart (sym h ∙ form-3 a b c))
-      no-form k (by-4 a b c d) = absurd (apart (sym h ∙ form-4 a b c d))
+      no-form k (by-1 a) = absurd (not-both (sym h ∙ form-1 a))
+      no-form k (by-2 a b) = absurd (not-both (sym h ∙ form-2 a b))
+      no-form k (by-3 a b c) = absurd (not-both (sym h ∙ form-3 a b c))
+      no-form k (by-4 a b c d) = absurd (not-both (sym h ∙ form-4 a b c d))
       no-form k (by-5 y a) = y
       no-form k (by-6 y a b) = y
 

@@ -16,9 +16,9 @@ abbrev pub counts : ℕ → ℕ → Counts
 counts m n = record { yards = m; farms = n }
 
 -- document 01's answer in each case of the code's enum
-abbrev pub meaning : Reading → Answer Counts
-meaning (Accepted m n) = accepted (counts m n)
-meaning (Refused k) = refused k
+abbrev pub readingAnswer : Reading → Answer Counts
+readingAnswer (Accepted m n) = accepted (counts m n)
+readingAnswer (Refused k) = refused k
 
 -- questions 1 to 4: the form of a sheet
 unfoldable pub form : List ℕ → Answer Counts

@@ -6,7 +6,7 @@ mod yards;
 
 ghost use mathlib.Core.Path.{_≡_};
 ghost use Rattle.questions.specs.Questions.{question1, wellFormed, question2};
-ghost use Rattle.questions.specs.Reading.{meaning, form};
+ghost use Rattle.questions.specs.Reading.{readingAnswer, form};
 use record::Record;
 
 pub const KIND_YARD: u8 = 0x59;
@@ -29,7 +29,7 @@ pub enum Reading {
 
 // Questions 1 to 4.
 pub fn form_of(sheet: &[u8]) -> Reading
-    ensures { λ r. ⌜ meaning r ≡ form (now (sheet .entry)) ⌝ }
+    ensures { λ r. ⌜ readingAnswer r ≡ form (now (sheet .entry)) ⌝ }
 {
     if !length_good(sheet) {
         return Reading::Refused(1);

@@ -1,6 +1,6 @@
 -- The record (document 01, "The haul sheet"): byte 0 the kind, byte 1 a yard number, byte 2 a farm number, byte 3 zero,
 -- bytes 4 to 7 an amount, lowest byte first.
-use Prim.Native.Nat.{ℕ, _+_, _*_, _/_, _%_}
+use Prim.Native.Nat.{ℕ, _+_, _*_, _/_, _%_, _^_}
 use mathlib.Core.Bool.{cond}
 use mathlib.Core.List.{List, [], _∷_, _++_}
 use lib.ListN.{length, getD, take, drop}
@@ -10,6 +10,10 @@ use Rattle.record.specs.declared.Record.{Record}
 -- four bytes, lowest first
 abbrev pub word : ℕ → ℕ → ℕ → ℕ → ℕ
 word a b c d = a + 256 * b + 65536 * c + 16777216 * d
+
+-- what a number of four bytes, as an amount is, stays below
+abbrev pub amountEnd : ℕ
+amountEnd = 2 ^ 32
 
 -- a number in four bytes, lowest first
 unfoldable pub wordBytes : ℕ → List ℕ

@@ -16,7 +16,7 @@ use Rattle.questions.specs.Questions.{question1, question2, wellFormed, wellFor
 use Rattle.questions.specs.Reading.{Counts, counts, form, reading}
 use Rattle.price.specs.Plan.{openRecord, farmRecord, totalRecord, movesRecord, planBytes, question9}
 use Rattle.price.specs.Pricing.{Plan, question8, pricing}
-use Rattle.search.specs.Settling.{settledAt, openEnd, limitedEnd, planOf}
+use Rattle.search.specs.SearchEnds.{settledAt, openEnd, limitedEnd, planOf}
 use Rattle.search.specs.Planning.{openPlan, limitedPlan, question7, openPlanning, limitedPlanning}
 
 -- ---- the sheets

@@ -26,9 +26,9 @@ use Rattle.price.proofs.PricingLaws.{makes, writes-of}
 use Rattle.engine.specs.declared.Neighbourhood.{Neighbourhood}
 use Rattle.engine.specs.declared.Neighbourhood.the-variants.{AddDropSwap, Swap}
 use Rattle.search.specs.declared.planning.Settled.{Settled}
-use Rattle.search.specs.Settling.{settledAt, openEnd, limitedEnd, planOf}
+use Rattle.search.specs.SearchEnds.{settledAt, openEnd, limitedEnd, planOf}
 use Rattle.search.specs.Planning.{openPlan, limitedPlan, question7, openPlanning, limitedPlanning}
-use Rattle.search.specs.Preparing.{endBy, planningBy}
+use Rattle.search.specs.PlanKinds.{endBy, planningBy}
 
 -- the writer, given a settled set, leaves its plan
 pub writes-settled : (s : List ℕ) (m n : ℕ) (r : Settled) (area next : List ℕ) (bytes : ℕ) → Shape s m n

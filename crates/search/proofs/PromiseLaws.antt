@@ -16,10 +16,10 @@ use Rattle.bounds.proofs.Searches.{open-plan-bound, open-plan-thrice, limited-p
 use Rattle.questions.specs.Answers.{accepted}
 use Rattle.questions.specs.Sheet.{yards, instanceOf, instanceBy}
 use Rattle.questions.proofs.AcceptedLaws.{WithinBounds, door, accepts, facilities-are}
-use Rattle.price.specs.Pricing.{Plan, meaning, answer, areaAfter, OfPlan}
+use Rattle.price.specs.Pricing.{Plan, plannedAnswer, answer, areaAfter, OfPlan}
 use Rattle.price.specs.declared.Planned.{Planned}
 use Rattle.price.proofs.OfPlanLaws.{PlanOf, of-plan}
-use Rattle.search.specs.Settling.{settledAt, openEnd, limitedEnd, planOf}
+use Rattle.search.specs.SearchEnds.{settledAt, openEnd, limitedEnd, planOf}
 use Rattle.search.specs.Planning.{openPlan, limitedPlan, openPlanning, limitedPlanning}
 use Rattle.search.specs.Promises.{OfSize, LimitedPlanSized, NoOpenMove, OpenPlanSettled, NoLimitedMove, LimitedPlanSettled, BoundedByRivals, OpenPlanBounded, BoundedByRivalsOf, LimitedPlanBounded}
 use Rattle.search.proofs.PlanningLaws.{open-when, limited-when}
@@ -94,7 +94,7 @@ limited-plan-of s k room p e = let h = limited-when s k room p e in
 -- ---- the promises of the calls
 
 module _ (s : List ℕ) (r : Planned) (area next : List ℕ) where
-  module _ (says : meaning r ≡ answer (openPlanning s (length area))) (leaves : next ≡ areaAfter (openPlanning s (length area)) area) where
+  module _ (says : plannedAnswer r ≡ answer (openPlanning s (length area))) (leaves : next ≡ areaAfter (openPlanning s (length area)) area) where
     open-of : (P : ℕ → Type 0) → (WithinBounds (instanceOf s) → P (openSearch (instanceOf s) (openStart (instanceOf s)) .set)) → OfPlan r next P
     open-of P holds =
         of-plan (openPlanning s (length area)) r area next says leaves P
@@ -107,7 +107,7 @@ module _ (s : List ℕ) (r : Planned) (area next : List ℕ) where
     pub open-bounded : OpenPlanBounded s r next
     open-bounded = open-of (BoundedByRivals s) (open-within s)
 
-  module _ (k : ℕ) (says : meaning r ≡ answer (limitedPlanning s k (length area)))
+  module _ (k : ℕ) (says : plannedAnswer r ≡ answer (limitedPlanning s k (length area)))
       (leaves : next ≡ areaAfter (limitedPlanning s k (length area)) area) where
     limited-of : (P : ℕ → Type 0)
         → (WithinBounds (instanceOf s) → k ≤ instanceOf s .facilities → P (limitedSearch (instanceOf s) (limitedStart k) .set)) → OfPlan r next P
@@ -127,13 +127,13 @@ module _ (s : List ℕ) (r : Planned) (area next : List ℕ) where
     limited-bounded = limited-of (BoundedByRivalsOf s k) (λ w within. limited-within s w k within)
 
   -- all that the calls promise, from their two equations
-  pub open-promises : (meaning r ≡ answer (openPlanning s (length area))) × (next ≡ areaAfter (openPlanning s (length area)) area)
-      → (meaning r ≡ answer (openPlanning s (length area))) × ((next ≡ areaAfter (openPlanning s (length area)) area)
+  pub open-promises : (plannedAnswer r ≡ answer (openPlanning s (length area))) × (next ≡ areaAfter (openPlanning s (length area)) area)
+      → (plannedAnswer r ≡ answer (openPlanning s (length area))) × ((next ≡ areaAfter (openPlanning s (length area)) area)
       × (OpenPlanSettled s r next × OpenPlanBounded s r next))
   open-promises h = (h .0, (h .1, (open-settled (h .0) (h .1), open-bounded (h .0) (h .1))))
 
   pub limited-promises : (k : ℕ)
-      → (meaning r ≡ answer (limitedPlanning s k (length area))) × (next ≡ areaAfter (limitedPlanning s k (length area)) area)
-      → (meaning r ≡ answer (limitedPlanning s k (length area))) × ((next ≡ areaAfter (limitedPlanning s k (length area)) area)
+      → (plannedAnswer r ≡ answer (limitedPlanning s k (length area))) × (next ≡ areaAfter (limitedPlanning s k (length area)) area)
+      → (plannedAnswer r ≡ answer (limitedPlanning s k (length area))) × ((next ≡ areaAfter (limitedPlanning s k (length area)) area)
       × (LimitedPlanSized s k r next × (LimitedPlanSettled s r next × LimitedPlanBounded s k r next)))
   limited-promises k h = (h .0, (h .1, (limited-sized k (h .0) (h .1), (limited-settled k (h .0) (h .1), limited-bounded k (h .0) (h .1)))))

@@ -9,7 +9,7 @@ use Rattle.questions.specs.Sheet.{instanceOf}
 use Rattle.questions.specs.Reading.{reading}
 use Rattle.price.specs.Plan.{question9}
 use Rattle.price.specs.Pricing.{Plan}
-use Rattle.search.specs.Settling.{openEnd, limitedEnd, planOf}
+use Rattle.search.specs.SearchEnds.{openEnd, limitedEnd, planOf}
 
 -- the open plan, and the limited plan for k: the set that the search ends in, its total by what the search goes by
 unfoldable pub openPlan : Instance → Plan

@@ -7,7 +7,7 @@ mod tables;
 
 ghost use mathlib.Core.Path.{_≡_};
 ghost use lib.ListN.{length};
-ghost use Rattle.price.specs.Pricing.{meaning, answer, areaAfter};
+ghost use Rattle.price.specs.Pricing.{plannedAnswer, answer, areaAfter};
 ghost use Rattle.search.specs.Planning.{openPlanning, limitedPlanning};
 ghost use Rattle.search.specs.Promises.{OpenPlanSettled, OpenPlanBounded, LimitedPlanSized, LimitedPlanSettled, LimitedPlanBounded};
 use engine::Neighbourhood;
@@ -16,7 +16,7 @@ use price::Planned;
 
 // Writes the open plan of a sheet to the front of the area. A refused call leaves the area as it was.
 pub fn open_plan(sheet: &[u8], area: &mut [u8]) -> Planned
-    ensures answer { λ r. ⌜ meaning r ≡ answer (openPlanning (now (sheet .entry)) (length (now (area .entry)))) ⌝ }
+    ensures answer { λ r. ⌜ plannedAnswer r ≡ answer (openPlanning (now (sheet .entry)) (length (now (area .entry)))) ⌝ }
     ensures area { λ r. ⌜ now (area .exit) ≡ areaAfter (openPlanning (now (sheet .entry)) (length (now (area .entry)))) (now (area .entry)) ⌝ }
     ensures settled { λ r. ⌜ OpenPlanSettled (now (sheet .entry)) r (now (area .exit)) ⌝ }
     ensures bounded { λ r. ⌜ OpenPlanBounded (now (sheet .entry)) r (now (area .exit)) ⌝ }
@@ -26,7 +26,7 @@ pub fn open_plan(sheet: &[u8], area: &mut [u8]) -> Planned
 
 // Writes the limited plan of a sheet for k yards to the front of the area. A refused call leaves the area as it was.
 pub fn limited_plan(sheet: &[u8], k: usize, area: &mut [u8]) -> Planned
-    ensures answer { λ r. ⌜ meaning r ≡ answer (limitedPlanning (now (sheet .entry)) k (length (now (area .entry)))) ⌝ }
+    ensures answer { λ r. ⌜ plannedAnswer r ≡ answer (limitedPlanning (now (sheet .entry)) k (length (now (area .entry)))) ⌝ }
     ensures area { λ r. ⌜ now (area .exit) ≡ areaAfter (limitedPlanning (now (sheet .entry)) k (length (now (area .entry)))) (now (area .entry)) ⌝ }
     ensures sized { λ r. ⌜ LimitedPlanSized (now (sheet .entry)) k r (now (area .exit)) ⌝ }
     ensures settled { λ r. ⌜ LimitedPlanSettled (now (sheet .entry)) r (now (area .exit)) ⌝ }

@@ -3,21 +3,23 @@
 // Every plan goes one way, whatever its moves.
 ghost use mathlib.Core.Path.{_≡_};
 ghost use mathlib.Core.Bool.{true};
-ghost use Prim.Native.Nat.{_^_, _≤_, _<_};
+ghost use Prim.Native.Nat.{_≤_, _<_};
 ghost use lib.ListN.{length};
 ghost use Rattle.model.specs.Search.{search};
+ghost use Rattle.record.specs.Records.{amountEnd};
+ghost use Rattle.questions.specs.Bounds.{mostYards};
 ghost use Rattle.questions.specs.Sheet.{instanceBy};
 ghost use Rattle.questions.specs.Shape.{Shape};
 ghost use Rattle.questions.specs.Answers.{accepted};
 ghost use Rattle.questions.specs.Reading.{counts, reading};
 ghost use Rattle.price.specs.Plan.{question9};
-ghost use Rattle.price.specs.Pricing.{meaning, answer, areaAfter};
+ghost use Rattle.price.specs.Pricing.{plannedAnswer, answer, areaAfter};
 ghost use Rattle.engine.specs.Tables.{tabled, tableCost, goodTables};
 ghost use Rattle.engine.specs.Moves.{neighboursBy};
 ghost use Rattle.engine.specs.Search.{startSet};
-ghost use Rattle.search.specs.Tables.{Free, OpeningBy};
-ghost use Rattle.search.specs.Settling.{settledAt, planOf};
-ghost use Rattle.search.specs.Preparing.{startBy, endBy, planningBy};
+ghost use Rattle.search.specs.SheetTables.{Free, OpeningBy};
+ghost use Rattle.search.specs.SearchEnds.{settledAt, planOf};
+ghost use Rattle.search.specs.PlanKinds.{startBy, endBy, planningBy};
 use crate::tables;
 use engine::Found;
 use engine::NO_LIMIT;
@@ -44,7 +46,7 @@ pub(crate) fn plan_with(
     k: usize,
     area: &mut [u8],
 ) -> Planned
-    ensures answer { λ r. ⌜ meaning r ≡ answer (planningBy neighbourhood (now (sheet .entry)) k (length (now (area .entry)))) ⌝ }
+    ensures answer { λ r. ⌜ plannedAnswer r ≡ answer (planningBy neighbourhood (now (sheet .entry)) k (length (now (area .entry)))) ⌝ }
     ensures area { λ r. ⌜ now (area .exit) ≡ areaAfter (planningBy neighbourhood (now (sheet .entry)) k (length (now (area .entry)))) (now (area .entry)) ⌝ }
 {
     match sheet::read(sheet) {
@@ -76,7 +78,7 @@ fn plan_by(
     area: &mut [u8],
 ) -> Planned
     requires { ⌜ (reading (now sheet) ≡ accepted (counts m n)) × (1 ≤ k) × (k ≤ m) × (question9 m n (length (now area)) ≡ true) ⌝ }
-    ensures answer { λ r. ⌜ meaning r ≡ answer (accepted (planOf (instanceBy (now (sheet .entry)) m n) (endBy neighbourhood (instanceBy (now (sheet .entry)) m n) k))) ⌝ }
+    ensures answer { λ r. ⌜ plannedAnswer r ≡ answer (accepted (planOf (instanceBy (now (sheet .entry)) m n) (endBy neighbourhood (instanceBy (now (sheet .entry)) m n) k))) ⌝ }
     ensures area { λ r. ⌜ now (area .exit) ≡ areaAfter (accepted (planOf (instanceBy (now (sheet .entry)) m n) (endBy neighbourhood (instanceBy (now (sheet .entry)) m n) k))) (now (area .entry)) ⌝ }
 {
     let mut opening = [0u64; MOST_YARDS];
@@ -124,7 +126,7 @@ fn search_on(
 
 // Document 01's starts: the single yard of least cost, or yards 0 to k - 1.
 fn start_of(neighbourhood: Neighbourhood, k: usize) -> Start
-    requires { ⌜ k ≤ 32 ⌝ }
+    requires { ⌜ k ≤ mostYards ⌝ }
     ensures { λ r. ⌜ r ≡ startBy neighbourhood k ⌝ }
 {
     match neighbourhood {
@@ -138,8 +140,8 @@ fn start_of(neighbourhood: Neighbourhood, k: usize) -> Start
 
 // Writes the plan of the set that a search settled on; the moves are those made.
 fn write(sheet: &[u8], m: usize, n: usize, settled: Settled, area: &mut [u8]) -> Planned
-    requires { ⌜ Shape (now sheet) m n × (question9 m n (length (now area)) ≡ true) × (settled .cost < 2 ^ 32) × (settled .moves < 2 ^ 32) ⌝ }
-    ensures answer { λ r. ⌜ meaning r ≡ answer (accepted (planOf (instanceBy (now (sheet .entry)) m n) settled)) ⌝ }
+    requires { ⌜ Shape (now sheet) m n × (question9 m n (length (now area)) ≡ true) × (settled .cost < amountEnd) × (settled .moves < amountEnd) ⌝ }
+    ensures answer { λ r. ⌜ plannedAnswer r ≡ answer (accepted (planOf (instanceBy (now (sheet .entry)) m n) settled)) ⌝ }
     ensures area { λ r. ⌜ now (area .exit) ≡ areaAfter (accepted (planOf (instanceBy (now (sheet .entry)) m n) settled)) (now (area .entry)) ⌝ }
 {
     let moves = settled.moves as u32;

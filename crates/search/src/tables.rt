@@ -3,7 +3,7 @@ ghost use mathlib.Core.Path.{_≡_};
 ghost use Prim.Native.Nat.{_+_, _*_, _≤_};
 ghost use lib.ListN.{length};
 ghost use Rattle.price.specs.Nearest.{amountAt};
-ghost use Rattle.search.specs.Tables.{Holds};
+ghost use Rattle.search.specs.SheetTables.{Holds};
 use record::Record;
 
 // The amount of record k, read as a part of the sheet: of eight bytes the compiler knows that they hold a record.

@@ -1,3 +1,3 @@
--- SetLaws: what fits into 32 bits. MemberLaws: the listed numbers of a set.
-pub mod SetLaws
+-- WithinLaws: what fits into 32 bits. MemberLaws: the listed numbers of a set.
+pub mod WithinLaws
 pub mod MemberLaws

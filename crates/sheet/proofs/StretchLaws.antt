@@ -20,6 +20,6 @@ module _ (s : List ℕ) (m p : ℕ) where
   unfolding stretch
   no-such-farm few above = rw (le-leb m mostYards few, le-ltb p mostFarms above)
 
-  pub no-room : m ≤ mostYards → p < mostFarms → length s < 8 * (m + p * m) + 8 * m → stretch s m p ≡ []
+  pub too-short : m ≤ mostYards → p < mostFarms → length s < 8 * (m + p * m) + 8 * m → stretch s m p ≡ []
   unfolding stretch
-  no-room few below short = rw (le-leb m mostYards few, lt-ltb p mostFarms below, lt-leb (8 * (m + p * m) + 8 * m) (length s) short)
+  too-short few below short = rw (le-leb m mostYards few, lt-ltb p mostFarms below, lt-leb (8 * (m + p * m) + 8 * m) (length s) short)

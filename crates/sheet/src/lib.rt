@@ -9,7 +9,7 @@ pub use questions::MOST_FARMS;
 pub use questions::MOST_YARDS;
 pub use questions::Reading;
 ghost use mathlib.Core.Path.{_≡_};
-ghost use Rattle.questions.specs.Reading.{meaning, reading};
+ghost use Rattle.questions.specs.Reading.{readingAnswer, reading};
 ghost use Rattle.sheet.specs.Stretch.{stretch, farmHauls};
 ghost use Rattle.sheet.specs.OnePass.{Fails};
 use one_pass::OnePass;
@@ -17,7 +17,7 @@ use record::Record;
 
 // The counts of yards and farms, or the number of the first question of 1 to 6 that is answered no.
 pub fn read(sheet: &[u8]) -> Reading
-    ensures { λ r. ⌜ meaning r ≡ reading (now (sheet .entry)) ⌝ }
+    ensures { λ r. ⌜ readingAnswer r ≡ reading (now (sheet .entry)) ⌝ }
 {
     let mut table = [0u32; four_point::PLACES];
     match one_pass::counts_of(sheet, &mut table) {
@@ -34,7 +34,7 @@ pub fn read(sheet: &[u8]) -> Reading
 // The answer to a sheet that some question of 1 to 5 turns down: it is 5 where 1 to 4 do not.
 fn refusal(sheet: &[u8]) -> Reading
     requires { ⌜ Fails (now sheet) ⌝ }
-    ensures { λ r. ⌜ meaning r ≡ reading (now (sheet .entry)) ⌝ }
+    ensures { λ r. ⌜ readingAnswer r ≡ reading (now (sheet .entry)) ⌝ }
 {
     match questions::form_of(sheet) {
         Reading::Accepted { yards: _, farms: _ } => Reading::Refused(5),

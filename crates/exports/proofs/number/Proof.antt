@@ -1,9 +1,9 @@
 -- `number` meets its contract: the arms of the `match` are the cases of `resultNumber`.
 use native.Mathlib.Omega.{arith}
 use mathlib.Core.Path.{sym, ap, subst}
-use Rattle.price.specs.Pricing.{meaning}
+use Rattle.price.specs.Pricing.{plannedAnswer}
 use Rattle.price.specs.declared.Planned.{Planned}
-use Rattle.exports.specs.Numbers.{resultNumber, Within}
+use Rattle.exports.specs.Numbers.{resultNumber, KeepsBits}
 use borrow.Author.Needs.{needs}
 use Rattle.exports.proofs.number.Statement.{statement}
 use Rattle.exports.proofs.number.Tie as tie
@@ -12,7 +12,7 @@ enum-known-planned : tie.Need-enum-known-planned
 enum-known-planned c = search needs
 
 mul-result : tie.Need-mul-result
-mul-result c = omega (arith, subst Within (ap meaning (c .before .planned .given .1)) (c .before .before .before .pre) .0)
+mul-result c = omega (arith, subst KeepsBits (ap plannedAnswer (c .before .planned .given .1)) (c .before .before .before .pre) .0)
 
 cast-result : tie.Need-cast-result
 cast-result c = search needs
@@ -21,7 +21,7 @@ mul-result-2 : tie.Need-mul-result-2
 mul-result-2 c = search needs
 
 add-result : tie.Need-add-result
-add-result c = omega (arith, subst Within (ap meaning (c .before .planned .given .1)) (c .before .before .before .pre) .0)
+add-result c = omega (arith, subst KeepsBits (ap plannedAnswer (c .before .planned .given .1)) (c .before .before .before .pre) .0)
 
 enum-known-planned-2 : tie.Need-enum-known-planned-2
 enum-known-planned-2 c = search needs
@@ -30,7 +30,7 @@ cast-result-2 : tie.Need-cast-result-2
 cast-result-2 c = search needs
 
 returns : tie.Need-returns
-returns c = ap (λ (p : Planned). resultNumber (meaning p)) (sym (c .before .planned .given .1))
+returns c = ap (λ (p : Planned). resultNumber (plannedAnswer p)) (sym (c .before .planned .given .1))
 
 returns-2 : tie.Need-returns-2
 returns-2 c = search needs

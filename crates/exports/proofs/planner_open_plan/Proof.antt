@@ -1,7 +1,7 @@
 -- `planner_open_plan` meets its contract: `search::open_plan` does, and its answers keep to their bits.
 use mathlib.Core.Path.{sym, ap, subst, _∙_}
 use Rattle.search.specs.Promises.{NoOpenMove, BoundedByRivals}
-use Rattle.exports.specs.Numbers.{resultNumber, Within}
+use Rattle.exports.specs.Numbers.{resultNumber, KeepsBits}
 use Rattle.exports.proofs.NumberLaws.{open-within, of-written}
 use borrow.Author.Needs.{needs}
 use Rattle.exports.proofs.planner_open_plan.Statement.{statement}
@@ -11,7 +11,7 @@ open-plan-requires : tie.Need-open-plan-requires
 open-plan-requires c κs = search needs
 
 number-requires : tie.Need-number-requires
-number-requires c κs = subst Within (sym (c .before .before .open-plan .ensures .0)) (open-within _ _)
+number-requires c κs = subst KeepsBits (sym (c .before .before .open-plan .ensures .0)) (open-within _ _)
 
 same-length : tie.Need-same-length
 same-length c = search needs
@@ -21,7 +21,7 @@ returns c = let planned = c .before .before .before .open-plan in
     let start = c .before .before .before .before .before .before .before in
     let sheet = start .args .sheet .now in
     let area = planned .last .1 .0 in
-    let bits = subst Within (sym (planned .ensures .0)) (open-within _ _) in (
+    let bits = subst KeepsBits (sym (planned .ensures .0)) (open-within _ _) in (
       c .number .ensures ∙ ap resultNumber (planned .ensures .0),
       (
         planned .ensures .1 .0,

@@ -1,6 +1,6 @@
 -- `planner_price` meets its contract: `price::price` does, and its answers keep to their bits.
 use mathlib.Core.Path.{_≡_, sym, ap, subst, _∙_}
-use Rattle.exports.specs.Numbers.{resultNumber, Within}
+use Rattle.exports.specs.Numbers.{resultNumber, KeepsBits}
 use Rattle.exports.proofs.NumberLaws.{pricing-within, of-written}
 use borrow.Author.Needs.{needs}
 use Rattle.exports.proofs.planner_price.Statement.{statement}
@@ -10,7 +10,7 @@ price-requires : tie.Need-price-requires
 price-requires c κs = search needs
 
 number-requires : tie.Need-number-requires
-number-requires c κs = subst Within (sym (c .before .before .price .ensures .0)) (pricing-within _ _ _)
+number-requires c κs = subst KeepsBits (sym (c .before .before .price .ensures .0)) (pricing-within _ _ _)
 
 same-length : tie.Need-same-length
 same-length c = search needs
@@ -18,7 +18,7 @@ same-length c = search needs
 returns : tie.Need-returns
 returns c = let priced = c .before .before .before .price in
     let start = c .before .before .before .before .before .before .before in
-    let bits = subst Within (sym (priced .ensures .0)) (pricing-within _ _ _) in (
+    let bits = subst KeepsBits (sym (priced .ensures .0)) (pricing-within _ _ _) in (
       c .number .ensures ∙ ap resultNumber (priced .ensures .0),
       (
         priced .ensures .1 .0,

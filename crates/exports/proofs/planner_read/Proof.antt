@@ -1,7 +1,7 @@
 -- `planner_read` meets its contract: the arms of the `match` are the cases of `countsNumber`, and the counts are few.
 use native.Mathlib.Omega.{arith}
 use mathlib.Core.Path.{sym, ap, _∙_}
-use Rattle.questions.specs.Reading.{meaning}
+use Rattle.questions.specs.Reading.{readingAnswer}
 use Rattle.questions.proofs.AcceptedLaws.{accepts}
 use Rattle.exports.specs.Numbers.{countsNumber}
 use borrow.Author.Needs.{needs}
@@ -15,15 +15,15 @@ enum-known-yards : tie.Need-enum-known-yards
 enum-known-yards c = search needs
 
 mul-result : tie.Need-mul-result
-mul-result c = let f = accepts _ _ _ (sym (c .before .before .before .read .ensures) ∙ ap meaning (c .before .yards .given .1)) .has in
+mul-result c = let f = accepts _ _ _ (sym (c .before .before .before .read .ensures) ∙ ap readingAnswer (c .before .yards .given .1)) .has in
     omega (arith, f .few-yards)
 
 mul-result-2 : tie.Need-mul-result-2
-mul-result-2 c = let f = accepts _ _ _ (sym (c .before .before .before .read .ensures) ∙ ap meaning (c .before .yards .given .1)) .has in
+mul-result-2 c = let f = accepts _ _ _ (sym (c .before .before .before .read .ensures) ∙ ap readingAnswer (c .before .yards .given .1)) .has in
     omega (arith, f .few-farms)
 
 add-result : tie.Need-add-result
-add-result c = let f = accepts _ _ _ (sym (c .before .before .before .read .ensures) ∙ ap meaning (c .before .yards .given .1)) .has in
+add-result c = let f = accepts _ _ _ (sym (c .before .before .before .read .ensures) ∙ ap readingAnswer (c .before .yards .given .1)) .has in
     omega (arith, f .few-yards, f .few-farms)
 
 enum-known-number : tie.Need-enum-known-number
@@ -33,10 +33,10 @@ cast-result : tie.Need-cast-result
 cast-result c = search needs
 
 returns : tie.Need-returns
-returns c = ap countsNumber (sym (ap meaning (c .before .yards .given .1)) ∙ c .before .before .before .read .ensures)
+returns c = ap countsNumber (sym (ap readingAnswer (c .before .yards .given .1)) ∙ c .before .before .before .read .ensures)
 
 returns-2 : tie.Need-returns-2
-returns-2 c = ap countsNumber (sym (ap meaning (c .before .number .given .1)) ∙ c .before .before .before .read .ensures)
+returns-2 c = ap countsNumber (sym (ap readingAnswer (c .before .number .given .1)) ∙ c .before .before .before .read .ensures)
 
 pub planner-read-spec : {M : Type 1} → statement M
 planner-read-spec =

@@ -1,7 +1,7 @@
 -- `added` meets its contract: each `return` is a case of `with`. The sum fits, since the bit is not there.
 use mathlib.Core.Path.{sym, _∙_}
 use Rattle.model.specs.Sets.{with}
-use Rattle.sets.proofs.SetLaws.{with32-below, with32-above, room}
+use Rattle.sets.proofs.WithinLaws.{with32-below, with32-above, room}
 use Rattle.model.proofs.SetLaws.{one-shl}
 use borrow.Author.Needs.{needs}
 use Rattle.sets.proofs.added.Statement.{statement}

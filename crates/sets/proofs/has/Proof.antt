@@ -1,6 +1,6 @@
 -- `has` meets its contract: no bit from 32 on is set, and the others are read by a shift.
 use Rattle.model.specs.Sets.{member}
-use Rattle.sets.proofs.SetLaws.{none-above}
+use Rattle.sets.proofs.WithinLaws.{none-above}
 use borrow.Author.Needs.{needs}
 use Rattle.sets.proofs.has.Statement.{statement}
 use Rattle.sets.proofs.has.Tie as tie

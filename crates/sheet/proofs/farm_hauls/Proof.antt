@@ -1,7 +1,7 @@
 -- `farm_hauls` meets its contract: the arms of the `match` are the cases of `farmHauls`.
 use mathlib.Core.Path.{sym, ap, _∙_}
 use borrow.Author.Tests.{lt-ltb, le-ltb}
-use Rattle.questions.specs.Reading.{meaning}
+use Rattle.questions.specs.Reading.{readingAnswer}
 use Rattle.sheet.specs.Stretch.{farmHauls}
 use borrow.Author.Needs.{needs}
 use Rattle.sheet.proofs.farm_hauls.Statement.{statement}
@@ -28,17 +28,17 @@ slice-aggregate-result-2 c = search needs
 returns : tie.Need-returns
 unfolding farmHauls
 returns c = let arm = c .before .before .before in
-    rw (sym (arm .before .before .form-of .ensures) ∙ ap meaning (arm .yards .given .1), lt-ltb _ _ (c .before .if1 .taken)) (c .farm-stretch .ensures)
+    rw (sym (arm .before .before .form-of .ensures) ∙ ap readingAnswer (arm .yards .given .1), lt-ltb _ _ (c .before .if1 .taken)) (c .farm-stretch .ensures)
 
 returns-2 : tie.Need-returns-2
 unfolding farmHauls
 returns-2 c = let arm = c .before .before .before in
-    rw (sym (arm .before .before .form-of .ensures) ∙ ap meaning (arm .yards .given .1), le-ltb _ _ (c .before .if1 .left))
+    rw (sym (arm .before .before .form-of .ensures) ∙ ap readingAnswer (arm .yards .given .1), le-ltb _ _ (c .before .if1 .left))
 
 returns-3 : tie.Need-returns-3
 unfolding farmHauls
 returns-3 c = let arm = c .before in
-    rw (sym (arm .before .before .form-of .ensures) ∙ ap meaning (arm .enum-told .given .1))
+    rw (sym (arm .before .before .form-of .ensures) ∙ ap readingAnswer (arm .enum-told .given .1))
 
 pub farm-hauls-spec : {M : Type 1} → statement M
 farm-hauls-spec =

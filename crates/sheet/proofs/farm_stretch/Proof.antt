@@ -5,7 +5,7 @@ use native.Mathlib.Nat.{add-sub-cancel-left}
 use Prim.Native.Nat.{ℕ, _+_, _*_}
 use lib.ListN.{take, drop}
 use Rattle.model.proofs.PlaceLaws.{few-places}
-use Rattle.sheet.proofs.StretchLaws.{stretch-is, no-such-yards, no-such-farm, no-room}
+use Rattle.sheet.proofs.StretchLaws.{stretch-is, no-such-yards, no-such-farm, too-short}
 use borrow.Author.Needs.{needs}
 use Rattle.sheet.proofs.farm_stretch.Statement.{statement}
 use Rattle.sheet.proofs.farm_stretch.Tie as tie
@@ -41,7 +41,7 @@ slice-aggregate-result-3 : tie.Need-slice-aggregate-result-3
 slice-aggregate-result-3 c = search needs
 
 returns-3 : tie.Need-returns-3
-returns-3 c = sym (no-room _ _ _ (omega arith) (omega arith) (omega arith))
+returns-3 c = sym (too-short _ _ _ (omega arith) (omega arith) (omega arith))
 
 sub-result : tie.Need-sub-result
 sub-result c = search needs

@@ -3,12 +3,12 @@ use Prim.Native.Nat.{_≤_, _<_, _-_, _^_}
 use native.Mathlib.Omega.{arith}
 use borrow.Author.Needs.{needs}
 use lib.ListN.{length}
-use Rattle.price.proofs.NearestLaws.{Least, least-none, yard-room, none-listed, more-listed, all-listed}
+use Rattle.price.proofs.NearestLaws.{LeastSoFar, least-none, yard-room, none-listed, more-listed, all-listed}
 use Rattle.price.proofs.nearest.nearest_of.Statement.{statement}
 use Rattle.price.proofs.nearest.nearest_of.Tie as tie
 
 abbrev Inv-loop : tie.InvT-loop
-Inv-loop hauls set yards least₀ t₀ least t = (t ≤ length yards) × (least < 2 ^ 64) × Least hauls yards set t least
+Inv-loop hauls set yards least₀ t₀ least t = (t ≤ length yards) × (least < 2 ^ 64) × LeastSoFar hauls yards set t least
 
 abbrev μ-loop : tie.MeasureT-loop
 μ-loop hauls set yards least₀ t₀ least t = length yards - t

@@ -1,7 +1,7 @@
 -- `plan_fits` meets its contract: each branch is a case of `planFits`.
 use mathlib.Core.Path.{sym}
 use Rattle.price.specs.Plan.{question9}
-use Rattle.price.proofs.PlanLaws.{many-yards, many-farms, fits-within}
+use Rattle.price.proofs.PlanRecordLaws.{many-yards, many-farms, fits-within}
 use borrow.Author.Needs.{needs}
 use Rattle.price.proofs.plan.plan_fits.Statement.{statement}
 use Rattle.price.proofs.plan.plan_fits.Tie as tie

@@ -4,7 +4,7 @@ use mathlib.Core.Path.{sym, ap, _∙_}
 use Rattle.record.specs.Records.{recordOf, splice}
 use Rattle.price.proofs.NearestLaws.{farm-yards}
 use Rattle.price.proofs.WriteLaws.{put-one}
-use Rattle.price.proofs.PlanLaws.{farm-on}
+use Rattle.price.proofs.PlanRecordLaws.{farm-on}
 use borrow.Author.Needs.{needs}
 use Rattle.price.proofs.plan.put_farm.Statement.{statement}
 use Rattle.price.proofs.plan.put_farm.Tie as tie

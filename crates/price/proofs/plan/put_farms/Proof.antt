@@ -2,12 +2,12 @@
 use Prim.Native.Nat.{_≤_, _-_}
 use native.Mathlib.Omega.{arith}
 use borrow.Author.Needs.{needs}
-use Rattle.price.proofs.BodyLaws.{Served, served-none, served-more, served-all}
+use Rattle.price.proofs.YardsAndFarmsLaws.{ServedSoFar, served-none, served-more, served-all}
 use Rattle.price.proofs.plan.put_farms.Statement.{statement}
 use Rattle.price.proofs.plan.put_farms.Tie as tie
 
 abbrev Inv-loop : tie.InvT-loop
-Inv-loop sheet m n set yards area₀ from total₀ farm₀ area total farm = (farm ≤ n) × Served sheet m n set area₀ from area total farm
+Inv-loop sheet m n set yards area₀ from total₀ farm₀ area total farm = (farm ≤ n) × ServedSoFar sheet m n set area₀ from area total farm
 
 abbrev μ-loop : tie.MeasureT-loop
 μ-loop sheet m n set yards area₀ from total₀ farm₀ area total farm = n - farm

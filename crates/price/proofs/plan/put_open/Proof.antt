@@ -1,9 +1,9 @@
 -- `put_open` meets its contract: the record has the amount of the yard's record on the sheet.
 use mathlib.Core.Path.{sym, ap, _∙_}
 use Rattle.record.specs.Records.{recordOf, splice}
-use Rattle.price.proofs.CostLaws.{yard-fee}
+use Rattle.price.proofs.SheetCostLaws.{yard-fee}
 use Rattle.price.proofs.WriteLaws.{put-one}
-use Rattle.price.proofs.PlanLaws.{open-on}
+use Rattle.price.proofs.PlanRecordLaws.{open-on}
 use borrow.Author.Needs.{needs}
 use Rattle.price.proofs.plan.put_open.Statement.{statement}
 use Rattle.price.proofs.plan.put_open.Tie as tie

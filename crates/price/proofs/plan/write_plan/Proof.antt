@@ -3,7 +3,7 @@ use native.Mathlib.Omega.{arith}
 use mathlib.Core.Path.{sym}
 use Rattle.model.proofs.Bools.{said-no, said-yes}
 use Rattle.record.proofs.SpliceLaws.{splice-none}
-use Rattle.price.proofs.PlanLaws.{fits-says, few-records, fits-shape, writes-none, writes-short, end-room, writes-all}
+use Rattle.price.proofs.PlanRecordLaws.{fits-says, few-records, fits-shape, writes-none, writes-short, end-room, writes-all}
 use borrow.Author.Needs.{needs}
 use Rattle.price.proofs.plan.write_plan.Statement.{statement}
 use Rattle.price.proofs.plan.write_plan.Tie as tie
@@ -26,16 +26,16 @@ mul-if2-2 c = omega (arith, few-records _ _ _ (said-yes (c .before .plan-fits .e
 returns-2 : tie.Need-returns-2
 returns-2 c = rw (writes-short _ _ _ _ _ _ _ (said-yes (c .before .before .plan-fits .ensures) (c .before .if1 .left)) (c .if2 .taken)) (omega arith, sym (splice-none _ _))
 
-put-body-requires : tie.Need-put-body-requires
-put-body-requires c κs = let asked = c .before .before in
+put-yards-and-farms-requires : tie.Need-put-yards-and-farms-requires
+put-yards-and-farms-requires c κs = let asked = c .before .before in
     let fits = said-yes (asked .before .plan-fits .ensures) (asked .if1 .left) in
     (fits-shape _ _ _ _ fits (c .before .if2 .left), omega (arith, fits-says _ _ _ fits .enough))
 
-put-end-requires : tie.Need-put-end-requires
-put-end-requires c κs = let body = c .before .before .before in
+put-total-and-moves-requires : tie.Need-put-total-and-moves-requires
+put-total-and-moves-requires c κs = let body = c .before .before .before in
     let asked = body .before .before .before in
     let fits = said-yes (asked .before .plan-fits .ensures) (asked .if1 .left) in
-    let room = end-room _ _ _ _ _ fits (body .put-body .ensures .0) in
+    let room = end-room _ _ _ _ _ fits (body .put-yards-and-farms .ensures .0) in
     (room .0, room .1, omega (arith, room .2))
 
 same-length : tie.Need-same-length
@@ -46,8 +46,8 @@ returns-3 c = let put = c .before .before in
     let body = put .before .before .before .before in
     let asked = body .before .before .before in
     let fits = said-yes (asked .before .plan-fits .ensures) (asked .if1 .left) in
-    writes-all _ _ _ _ _ _ _ _ _ _ _ fits (body .before .before .if2 .left) (body .put-body .ensures .0) (body .put-body .ensures .1 .1)
-    (put .put-end .ensures .0) (put .put-end .ensures .1)
+    writes-all _ _ _ _ _ _ _ _ _ _ _ fits (body .before .before .if2 .left) (body .put-yards-and-farms .ensures .0) (body .put-yards-and-farms .ensures .1 .1)
+    (put .put-total-and-moves .ensures .0) (put .put-total-and-moves .ensures .1)
 
 pub write-plan-spec : {M : Type 1} → statement M
 write-plan-spec =
@@ -59,7 +59,7 @@ write-plan-spec =
     add-if2
     mul-if2-2
     returns-2
-    put-body-requires
-    put-end-requires
+    put-yards-and-farms-requires
+    put-total-and-moves-requires
     same-length
     returns-3)

@@ -10,9 +10,9 @@ use Rattle.questions.specs.Answers.{accepted}
 use Rattle.questions.specs.Sheet.{instanceBy}
 use Rattle.questions.proofs.AcceptedLaws.{accepts, shape-of}
 use Rattle.price.proofs.PricingLaws.{as-outcome}
-use Rattle.search.specs.Settling.{planOf}
-use Rattle.search.proofs.TableLaws.{tables-good}
-use Rattle.search.proofs.PreparingLaws.{reached}
+use Rattle.search.specs.SearchEnds.{planOf}
+use Rattle.search.proofs.SheetTableLaws.{tables-good}
+use Rattle.search.proofs.SheetSearchLaws.{same-end}
 use Rattle.search.proofs.PlanningLaws.{end-small}
 use Rattle.search.proofs.planning.plan_by.Statement.{statement}
 use Rattle.search.proofs.planning.plan_by.Tie as tie
@@ -58,7 +58,7 @@ write-requires : tie.Need-write-requires
 write-requires c κs = let s = c .before .before .before .before .before .before .before .before .before .before .before .before in
     let a = s .args in
     let small = end-small (a .sheet .now) (a .m) (a .n) _ (s .pre .0) (a .neighbourhood) (a .k)
-    (reached (a .sheet .now) (a .m) (a .n) (a .k) _ _ (c .before .before .before .before .before .fill .ensures) (c .before .search-on .result) (a .neighbourhood) (c .before .before .before .before .before .before .before .before .fill-opening .ensures)
+    (same-end (a .sheet .now) (a .m) (a .n) (a .k) _ _ (c .before .before .before .before .before .fill .ensures) (c .before .search-on .result) (a .neighbourhood) (c .before .before .before .before .before .before .before .before .fill-opening .ensures)
     (c .before .search-on .ensures)) in
     (shape-of (accepts _ _ _ (s .pre .0) .has), s .pre .3, small .0, small .1)
 
@@ -69,7 +69,7 @@ returns : tie.Need-returns
 returns c = let s = c .before .before .before .before .before .before .before .before .before .before .before .before .before .before .before in
     let a = s .args in
     as-outcome (ap (λ e. accepted (planOf (instanceBy (a .sheet .now) (a .m) (a .n)) e))
-    (reached (a .sheet .now) (a .m) (a .n) (a .k) _ _ (c .before .before .before .before .before .before .before .before .fill .ensures) (c .before .before .before .before .search-on .result) (a .neighbourhood) (c .before .before .before .before .before .before .before .before .before .before .before .fill-opening .ensures)
+    (same-end (a .sheet .now) (a .m) (a .n) (a .k) _ _ (c .before .before .before .before .before .before .before .before .fill .ensures) (c .before .before .before .before .search-on .result) (a .neighbourhood) (c .before .before .before .before .before .before .before .before .before .before .before .fill-opening .ensures)
     (c .before .before .before .before .search-on .ensures)))
     (c .before .before .write .result) _ _ (c .before .before .write .ensures)
 

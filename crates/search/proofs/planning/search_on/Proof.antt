@@ -2,7 +2,7 @@
 use native.Mathlib.Omega.{arith}
 use borrow.Author.Needs.{needs}
 use Rattle.engine.proofs.TableLaws.{good-when}
-use Rattle.search.proofs.PreparingLaws.{settles, never-stopped, never-refused}
+use Rattle.search.proofs.SheetSearchLaws.{settles, not-stopped, not-refused}
 use Rattle.search.proofs.planning.search_on.Statement.{statement}
 use Rattle.search.proofs.planning.search_on.Tie as tie
 
@@ -33,13 +33,13 @@ returns-2 : tie.Need-returns-2
 returns-2 c = let s = c .before .before .before .before .before .before .before in
     let a = s .args in
     let start = c .before .before .before .before .start-of in
-    absurd (never-stopped (a .neighbourhood) (a .m) (a .n) (a .k) (a .opening .now) (a .service .now) (s .pre .0) (s .pre .1) (s .pre .2) _ (start .ensures) _ (c .before .before .before .search .ensures) _ _ _ (c .before .set2 .given .1))
+    absurd (not-stopped (a .neighbourhood) (a .m) (a .n) (a .k) (a .opening .now) (a .service .now) (s .pre .0) (s .pre .1) (s .pre .2) _ (start .ensures) _ (c .before .before .before .search .ensures) _ _ _ (c .before .set2 .given .1))
 
 returns-3 : tie.Need-returns-3
 returns-3 c = let s = c .before .before .before .before .before .before in
     let a = s .args in
     let start = c .before .before .before .start-of in
-    absurd (never-refused (a .neighbourhood) (a .m) (a .n) (a .k) (a .opening .now) (a .service .now) (s .pre .0) (s .pre .1) (s .pre .2) _ (start .ensures) _ (c .before .before .search .ensures) (c .enum-told .given .1))
+    absurd (not-refused (a .neighbourhood) (a .m) (a .n) (a .k) (a .opening .now) (a .service .now) (s .pre .0) (s .pre .1) (s .pre .2) _ (start .ensures) _ (c .before .before .search .ensures) (c .enum-told .given .1))
 
 pub search-on-spec : {M : Type 1} → statement M
 search-on-spec =

@@ -3,7 +3,7 @@ use native.Mathlib.Omega.{arith}
 use lib.Pow.{pow-pos, pow-mono}
 use Rattle.model.specs.Plans.{limitedStart}
 use Rattle.model.proofs.SetLaws.{one-shl}
-use Rattle.search.specs.Preparing.{startBy}
+use Rattle.search.specs.PlanKinds.{startBy}
 use borrow.Author.Needs.{needs}
 use Rattle.search.proofs.planning.start_of.Statement.{statement}
 use Rattle.search.proofs.planning.start_of.Tie as tie

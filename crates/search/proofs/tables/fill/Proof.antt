@@ -3,8 +3,8 @@ use mathlib.Core.Path.{_≡_, refl}
 use Prim.Native.Nat.{_≤_, _-_}
 use native.Mathlib.Omega.{arith}
 use lib.ListN.{length, length-set}
-use Rattle.search.specs.Tables.{Holds}
-use Rattle.search.proofs.TableLaws.{holds-none, holds-more}
+use Rattle.search.specs.SheetTables.{Holds}
+use Rattle.search.proofs.SheetTableLaws.{holds-none, holds-more}
 use Rattle.search.proofs.tables.fill.Statement.{statement}
 use Rattle.search.proofs.tables.fill.Tie as tie
 

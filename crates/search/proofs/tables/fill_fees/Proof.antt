@@ -5,8 +5,8 @@ use native.Mathlib.Omega.{arith}
 use native.Mathlib.Nat.{zero-add}
 use Rattle.price.specs.Nearest.{amountAt}
 use lib.ListN.{length, length-set}
-use Rattle.search.specs.Tables.{Holds}
-use Rattle.search.proofs.TableLaws.{holds-none, holds-more}
+use Rattle.search.specs.SheetTables.{Holds}
+use Rattle.search.proofs.SheetTableLaws.{holds-none, holds-more}
 use Rattle.search.proofs.tables.fill_fees.Statement.{statement}
 use Rattle.search.proofs.tables.fill_fees.Tie as tie
 

@@ -1,10 +1,10 @@
--- `put_body` meets its contract: the set's yards are listed once, for their own records and for those of the farms.
+-- `put_yards_and_farms` meets its contract: the set's yards are listed once, for their own records and for those of the farms.
 use native.Mathlib.Omega.{arith}
 use Rattle.sets.proofs.MemberLaws.{part-room, part-small, part-length, part-numbers, part-count, part-few}
-use Rattle.price.proofs.BodyLaws.{total-is, body-is}
+use Rattle.price.proofs.YardsAndFarmsLaws.{total-is, body-is}
 use borrow.Author.Needs.{needs}
-use Rattle.price.proofs.plan.put_body.Statement.{statement}
-use Rattle.price.proofs.plan.put_body.Tie as tie
+use Rattle.price.proofs.plan.put_yards_and_farms.Statement.{statement}
+use Rattle.price.proofs.plan.put_yards_and_farms.Tie as tie
 
 members-below-requires : tie.Need-members-below-requires
 members-below-requires c κs = search needs
@@ -52,8 +52,8 @@ returns c = let farms = c .before .before .put-farms in
     let opened = part-count _ _ _ (listed .members-below .ensures) (known .0 .few-yards) in
     (opened, (total-is _ _ _ _ _ _ (opens .ensures .0) (farms .ensures .0), body-is _ _ _ _ _ _ _ _ opened (omega arith) (opens .ensures .1 .1) (farms .ensures .1 .1)))
 
-pub put-body-spec : {M : Type 1} → statement M
-put-body-spec =
+pub put-yards-and-farms-spec : {M : Type 1} → statement M
+put-yards-and-farms-spec =
     tie.close
     (tie.spec
     members-below-requires

@@ -6,7 +6,7 @@ use native.Mathlib.Omega.{arith}
 use mathlib.Core.Path.{_≡_, ap, ap₂, _∙_}
 use mathlib.Core.List.{List, _++_, append-nil}
 use lib.ListN.{length, getD}
-use Rattle.model.specs.Loops.{on, sum, join}
+use Rattle.model.specs.Loops.{on, sum, join, mostTerm}
 use Rattle.model.specs.Sets.{count, member}
 use Rattle.model.specs.Instance.{nearest, openingCost, serviceCost, totalCost}
 use Rattle.model.proofs.SumLaws.{Summed, summed-none, summed-more}
@@ -15,12 +15,13 @@ use Rattle.model.proofs.GapLaws.{NoneFrom, gap}
 use Rattle.sets.specs.Members.{risingBelow}
 use Rattle.sets.proofs.MemberLaws.{Next, passed, passed-none, passed-more, listed-next, listed-last}
 use Rattle.record.specs.Records.{recordOf, splice}
+use Rattle.questions.specs.Bounds.{mostYards}
 use Rattle.questions.specs.Sheet.{fee, instanceBy}
 use Rattle.record.proofs.SpliceLaws.{length-bytes, splice-turn}
-use Rattle.price.specs.Plan.{openRecord, farmRecord}
-use Rattle.price.proofs.CostLaws.{summed-same, fees-sum, hauls-sum}
-use Rattle.price.proofs.WriteLaws.{Filled, filled-none, filled-more, filled-same}
-use Rattle.price.proofs.PlanLaws.{closed-record, opened-record, open-short, farm-short, farm-length, opens-length}
+use Rattle.price.specs.Plan.{openRecord, farmRecord, openKind}
+use Rattle.price.proofs.SheetCostLaws.{summed-same, fees-sum, hauls-sum}
+use Rattle.price.proofs.WriteLaws.{PutSoFar, filled-none, filled-more, filled-same}
+use Rattle.price.proofs.PlanRecordLaws.{closed-record, opened-record, open-short, farm-short, farm-record-length, opens-length}
 
 module _ (s : List ℕ) (m n set : ℕ) where
   -- ---- the listed yards
@@ -41,7 +42,7 @@ module _ (s : List ℕ) (m n set : ℕ) where
 
   -- the area and the fees after so many of the listed yards
   pub record Opened (yards area₀ area : List ℕ) (total t : ℕ) : Type 0 where
-    pub written : Filled (openRecord (instanceBy s m n) set) area₀ 0 area (8 * t) (passed yards t)
+    pub written : PutSoFar (openRecord (instanceBy s m n) set) area₀ 0 area (8 * t) (passed yards t)
     pub summed : Summed (λ j. on (member set j) (fee s j)) total (passed yards t)
 
   pub opened-none : (yards area₀ : List ℕ) → Opened yards area₀ area₀ 0 0
@@ -60,12 +61,12 @@ module _ (s : List ℕ) (m n set : ℕ) where
     open-room area total t l h =
         omega (arith, h .written .few, h .written .long, next t l .below, next t l .rises)
 
-    pub opened-small : (area : List ℕ) (total t : ℕ) → m ≤ 32 → t < length yards → Opened yards area₀ area total t
-        → total ≤ 32 * 4294967296
+    pub opened-small : (area : List ℕ) (total t : ℕ) → m ≤ mostYards → t < length yards → Opened yards area₀ area total t
+        → total ≤ mostYards * mostTerm
     opened-small area total t few l h = omega (arith, h .summed .small, next t l .below, next t l .rises)
 
     pub opened-more : (area area′ : List ℕ) (total t x : ℕ) → t < length yards → Opened yards area₀ area total t
-        → x ≡ fee s (getD yards t 0) → x ≤ 4294967296
+        → x ≡ fee s (getD yards t 0) → x ≤ mostTerm
         → area′ ≡ splice area (8 * t) (openRecord (instanceBy s m n) set (getD yards t 0))
         → Opened yards area₀ area′ (total + x) (t + 1)
     opened-more area area′ total t x l h ex small put =
@@ -74,7 +75,7 @@ module _ (s : List ℕ) (m n set : ℕ) where
         let here = next t l in
         let I = instanceBy s m n in
         let long : length (openRecord I set i) ≡ 8 =
-        ap length (opened-record I set i (here .is-in)) ∙ length-bytes (recordOf 0x4F i 0 0 (I .opening i)) in
+        ap length (opened-record I set i (here .is-in)) ∙ length-bytes (recordOf openKind i 0 0 (I .opening i)) in
         record {
           written =
               rw (passed-more yards t) (filled-more (openRecord I set) area₀ 0 area area′ (8 * t) (8 * (t + 1)) i
@@ -88,7 +89,7 @@ module _ (s : List ℕ) (m n set : ℕ) where
 
     pub opened-all : (area : List ℕ) (total t : ℕ) → t ≡ length yards → Opened yards area₀ area total t
         → (total ≡ openingCost (instanceBy s m n) (member set))
-        × ((total ≤ m * 4294967296) × (area ≡ splice area₀ 0 (join m (openRecord (instanceBy s m n) set))))
+        × ((total ≤ m * mostTerm) × (area ≡ splice area₀ 0 (join m (openRecord (instanceBy s m n) set))))
     opened-all area total t done h =
         let last = listed-last set m yards e in
         let p = passed yards (length yards) in
@@ -106,11 +107,11 @@ module _ (s : List ℕ) (m n set : ℕ) where
   -- ---- the farms
 
   -- the area and the hauls after so many farms, whose records begin at an offset
-  pub record Served (area₀ : List ℕ) (from : ℕ) (area : List ℕ) (total farm : ℕ) : Type 0 where
-    pub written : Filled (farmRecord (instanceBy s m n) set) area₀ from area (from + 8 * farm) farm
+  pub record ServedSoFar (area₀ : List ℕ) (from : ℕ) (area : List ℕ) (total farm : ℕ) : Type 0 where
+    pub written : PutSoFar (farmRecord (instanceBy s m n) set) area₀ from area (from + 8 * farm) farm
     pub summed : Summed (nearest (instanceBy s m n) (member set)) total farm
 
-  pub served-none : (area₀ : List ℕ) (from : ℕ) → Served area₀ from area₀ 0 0
+  pub served-none : (area₀ : List ℕ) (from : ℕ) → ServedSoFar area₀ from area₀ 0 0
   served-none area₀ from =
       let start : from + 8 * 0 ≡ from = omega arith in
       record {
@@ -119,20 +120,20 @@ module _ (s : List ℕ) (m n set : ℕ) where
       }
 
   pub served-more : (area₀ area area′ : List ℕ) (from total farm x : ℕ) → from + 8 * farm + 8 ≤ length area₀
-      → Served area₀ from area total farm → x ≡ nearest (instanceBy s m n) (member set) farm → x ≤ 4294967296
-      → area′ ≡ splice area (from + 8 * farm) (farmRecord (instanceBy s m n) set farm) → Served area₀ from area′ (total + x) (farm + 1)
+      → ServedSoFar area₀ from area total farm → x ≡ nearest (instanceBy s m n) (member set) farm → x ≤ mostTerm
+      → area′ ≡ splice area (from + 8 * farm) (farmRecord (instanceBy s m n) set farm) → ServedSoFar area₀ from area′ (total + x) (farm + 1)
   served-more area₀ area area′ from total farm x room h ex small put =
       let I = instanceBy s m n in
       record {
         written =
             filled-more (farmRecord I set) area₀ from area area′ (from + 8 * farm) (from + 8 * (farm + 1)) farm (h .written)
-            (farm-short I set farm) room (omega (arith, farm-length I set farm)) put;
+            (farm-short I set farm) room (omega (arith, farm-record-length I set farm)) put;
         summed = summed-more (nearest I (member set)) total farm x (h .summed) ex small;
       }
 
-  pub served-all : (area₀ area : List ℕ) (from total farm : ℕ) → farm ≡ n → Served area₀ from area total farm
+  pub served-all : (area₀ area : List ℕ) (from total farm : ℕ) → farm ≡ n → ServedSoFar area₀ from area total farm
       → (total ≡ serviceCost (instanceBy s m n) (member set))
-      × ((total ≤ n * 4294967296) × (area ≡ splice area₀ from (join n (farmRecord (instanceBy s m n) set))))
+      × ((total ≤ n * mostTerm) × (area ≡ splice area₀ from (join n (farmRecord (instanceBy s m n) set))))
   served-all area₀ area from total farm done h =
       let g = rw done at h in
       (g .summed .exact ∙ hauls-sum s m n (member set), (g .summed .small, g .written .parts))

@@ -26,11 +26,11 @@ use Rattle.engine.specs.declared.Found.the-variants as Found
 use Rattle.engine.specs.declared.Neighbourhood.{Neighbourhood}
 use Rattle.engine.specs.declared.Neighbourhood.the-variants.{AddDropSwap, Swap}
 use Rattle.engine.proofs.SearchLaws.{unbroken}
-use Rattle.search.specs.Tables.{Holds, OpeningBy}
-use Rattle.search.specs.Settling.{settledAt, openEnd, limitedEnd}
-use Rattle.search.specs.Preparing.{startBy, endBy}
+use Rattle.search.specs.SheetTables.{Holds, OpeningBy}
+use Rattle.search.specs.SearchEnds.{settledAt, openEnd, limitedEnd}
+use Rattle.search.specs.PlanKinds.{startBy, endBy}
 use Rattle.search.specs.declared.planning.Settled.{Settled}
-use Rattle.search.proofs.TableLaws.{open-cost-is, limited-cost-is}
+use Rattle.search.proofs.SheetTableLaws.{open-cost-is, limited-cost-is}
 
 -- ---- the engine takes document 01's starts
 
@@ -72,13 +72,13 @@ module _ (moves : Neighbourhood) (m n k : ℕ) (opening service : List ℕ) (goo
   unfolding settledAt settledOf
   settles set total made e = ap settledOf (sym e ∙ is)
 
-  pub never-refused : r ≡ Found.Refused → ⊥
+  pub not-refused : r ≡ Found.Refused → ⊥
   unfolding isSettled
-  never-refused e = clash (ap isSettled is) (ap isSettled e)
+  not-refused e = clash (ap isSettled is) (ap isSettled e)
 
-  pub never-stopped : (set total made : ℕ) → r ≡ Found.Stopped set total made → ⊥
+  pub not-stopped : (set total made : ℕ) → r ≡ Found.Stopped set total made → ⊥
   unfolding isSettled
-  never-stopped set total made e = clash (ap isSettled is) (ap isSettled e)
+  not-stopped set total made e = clash (ap isSettled is) (ap isSettled e)
 
 -- ---- on tables filled from a sheet, the search is that of the sheet's instance
 
@@ -88,14 +88,14 @@ module _ (s : List ℕ) (m n k : ℕ) (opening service : List ℕ) (hauls : Hold
   unfolding tabled instanceBy tableCost
   start-is agree = same-start (tabled m n opening service) (instanceBy s m n) refl agree
 
-  pub reached : (moves : Neighbourhood) → OpeningBy moves s m opening
+  pub same-end : (moves : Neighbourhood) → OpeningBy moves s m opening
       → r ≡ settledAt (tableCost m n opening service)
       (search (tableCost m n opening service) (neighboursBy moves m) (startSet (startBy moves k) (tabled m n opening service)))
       → r ≡ endBy moves (instanceBy s m n) k
   unfolding startBy startSet endBy openEnd limitedEnd neighboursBy openSearch limitedSearch instanceBy tableCost openCost limitedCost addDropSwap swaps
-  reached AddDropSwap fees h =
+  same-end AddDropSwap fees h =
       let agree = open-cost-is s m n opening service fees hauls in
       h ∙ ap₂ (λ cost y. settledAt cost (search cost (addDropSwap m) y)) (fun-ext agree) (start-is agree)
-  reached Swap free h =
+  same-end Swap free h =
       let agree = limited-cost-is s m n opening service free hauls in
       h ∙ ap (λ cost. settledAt cost (search cost (swaps m) (limitedStart k))) (fun-ext agree)

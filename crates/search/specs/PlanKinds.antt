@@ -13,7 +13,7 @@ use Rattle.engine.specs.declared.Neighbourhood.{Neighbourhood}
 use Rattle.engine.specs.declared.Neighbourhood.the-variants.{AddDropSwap, Swap}
 use Rattle.engine.specs.declared.Start.{Start}
 use Rattle.engine.specs.declared.Start.the-variants.{Cheapest, Set}
-use Rattle.search.specs.Settling.{openEnd, limitedEnd, planOf}
+use Rattle.search.specs.SearchEnds.{openEnd, limitedEnd, planOf}
 use Rattle.search.specs.Planning.{question7}
 use Rattle.search.specs.declared.planning.Settled.{Settled}
 

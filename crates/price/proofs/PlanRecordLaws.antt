@@ -16,6 +16,7 @@ use Rattle.model.proofs.CountLaws.{count-le}
 use Rattle.model.proofs.PlaceLaws.{few-places}
 use Rattle.record.specs.Records.{recordOf, recordAt, wholeRecordAt, bytesOf, splice}
 use Rattle.record.specs.declared.Record.{Record}
+use Rattle.questions.specs.Bounds.{mostYards, mostFarms}
 use Rattle.questions.specs.Sheet.{fee, instanceBy}
 use Rattle.questions.specs.Shape.{Shape}
 use Rattle.sheet.specs.Stretch.{stretch}
@@ -23,7 +24,7 @@ use Rattle.record.proofs.RecordLaws.{whole}
 use Rattle.record.proofs.SpliceLaws.{length-bytes, splice-turn}
 use Rattle.price.specs.declared.nearest.Nearest.{Nearest}
 use Rattle.price.specs.Nearest.{nearestOn}
-use Rattle.price.specs.Plan.{openRecord, farmRecord, totalRecord, movesRecord, planBytes, question9, planFits, writing}
+use Rattle.price.specs.Plan.{openRecord, farmRecord, totalRecord, movesRecord, planBytes, question9, planFits, writing, openKind, farmKind, totalKind, movesKind}
 use Rattle.price.proofs.NearestLaws.{farm-haul, farm-yard, farm-yard-small}
 
 -- ---- the parts
@@ -33,25 +34,25 @@ module _ (I : Instance) (set : ℕ) where
   unfolding openRecord
   closed-record i e = rw e
 
-  pub opened-record : (i : ℕ) → member set i ≡ true → openRecord I set i ≡ bytesOf (recordOf 0x4F i 0 0 (I .opening i))
+  pub opened-record : (i : ℕ) → member set i ≡ true → openRecord I set i ≡ bytesOf (recordOf openKind i 0 0 (I .opening i))
   unfolding openRecord
   opened-record i e = rw e
 
   open-length : (i : ℕ) → length (openRecord I set i) ≡ 8 * on (member set i) 1
   open-length i =
       cases (member set i)
-      (λ e. ap length (opened-record i e) ∙ length-bytes (recordOf 0x4F i 0 0 (I .opening i)) ∙ ap (λ (b : Bool). 8 * on b 1) (sym e))
+      (λ e. ap length (opened-record i e) ∙ length-bytes (recordOf openKind i 0 0 (I .opening i)) ∙ ap (λ (b : Bool). 8 * on b 1) (sym e))
       (λ e. ap length (closed-record i e) ∙ ap (λ (b : Bool). 8 * on b 1) (sym e))
 
   pub open-short : (i : ℕ) → length (openRecord I set i) ≤ 8
   open-short i = omega (arith, open-length i, on-le (member set i) 1)
 
-  pub farm-length : (j : ℕ) → length (farmRecord I set j) ≡ 8
+  pub farm-record-length : (j : ℕ) → length (farmRecord I set j) ≡ 8
   unfolding farmRecord
-  farm-length j = length-bytes (recordOf 0x41 (assigned I (member set) j) j 0 (nearest I (member set) j))
+  farm-record-length j = length-bytes (recordOf farmKind (assigned I (member set) j) j 0 (nearest I (member set) j))
 
   pub farm-short : (j : ℕ) → length (farmRecord I set j) ≤ 8
-  farm-short j = omega (arith, farm-length j)
+  farm-short j = omega (arith, farm-record-length j)
 
   pub opens-length : (m : ℕ) → length (join m (openRecord I set)) ≡ 8 * count m (member set)
   unfolding join sum
@@ -63,23 +64,23 @@ module _ (I : Instance) (set : ℕ) where
   unfolding join
   farms-length zero = refl
   farms-length (suc n) =
-      omega (arith, length-append (join n (farmRecord I set)) (farmRecord I set n), farms-length n, farm-length n)
+      omega (arith, length-append (join n (farmRecord I set)) (farmRecord I set n), farms-length n, farm-record-length n)
 
 -- ---- the parts of a sheet's plan
 
 module _ (s : List ℕ) (m n set : ℕ) where
   -- an open yard's record has the amount of the yard's record on the sheet
   pub open-on : Shape s m n → (i : ℕ) → i < m → member set i ≡ true → (r : Record) → r ≡ wholeRecordAt s i
-      → openRecord (instanceBy s m n) set i ≡ bytesOf (recordOf 0x4F i 0 0 (r .amount))
+      → openRecord (instanceBy s m n) set i ≡ bytesOf (recordOf openKind i 0 0 (r .amount))
   unfolding instanceBy fee
   open-on shape i l e r h =
       let on-sheet : r ≡ recordAt s i = h ∙ whole s i (omega (arith, shape .room)) in
-      opened-record (instanceBy s m n) set i e ∙ ap (λ (x : Record). bytesOf (recordOf 0x4F i 0 0 (x .amount))) (sym on-sheet)
+      opened-record (instanceBy s m n) set i e ∙ ap (λ (x : Record). bytesOf (recordOf openKind i 0 0 (x .amount))) (sym on-sheet)
 
   -- a farm's record has the yard and the haul that are nearest on the farm's stretch
   pub farm-on : Shape s m n → (p : ℕ) → p < n → (hauls : List ℕ) (r : Nearest) → hauls ≡ stretch s m p → r ≡ nearestOn hauls set
       → (r .haul ≡ nearest (instanceBy s m n) (member set) p)
-      × (farmRecord (instanceBy s m n) set p ≡ bytesOf (recordOf 0x41 (r .yard) p 0 (r .haul))) × (r .yard ≤ 32)
+      × (farmRecord (instanceBy s m n) set p ≡ bytesOf (recordOf farmKind (r .yard) p 0 (r .haul))) × (r .yard ≤ mostYards)
   unfolding farmRecord
   farm-on shape p l hauls r part e =
       rw (e, part) (
@@ -91,20 +92,20 @@ module _ (s : List ℕ) (m n set : ℕ) where
   -- the yards' records, the farms' and the last two
   pub plan-parts : (total moves : ℕ) → planBytes (instanceBy s m n) set total moves
       ≡ join m (openRecord (instanceBy s m n) set) ++ join n (farmRecord (instanceBy s m n) set)
-      ++ (bytesOf (recordOf 0x54 (count m (member set)) n 0 total) ++ movesRecord moves)
+      ++ (bytesOf (recordOf totalKind (count m (member set)) n 0 total) ++ movesRecord moves)
   unfolding instanceBy planBytes totalRecord
   plan-parts total moves =
       append-assoc (join m (openRecord (instanceBy s m n) set) ++ join n (farmRecord (instanceBy s m n) set))
-      (bytesOf (recordOf 0x54 (count m (member set)) n 0 total)) (movesRecord moves)
+      (bytesOf (recordOf totalKind (count m (member set)) n 0 total)) (movesRecord moves)
 
 moves-length : (moves : ℕ) → length (movesRecord moves) ≡ 8
 unfolding movesRecord
-moves-length moves = length-bytes (recordOf 0x4D 0 0 0 moves)
+moves-length moves = length-bytes (recordOf movesKind 0 0 0 moves)
 
-pub end-length : (yards farms total moves : ℕ) → length (bytesOf (recordOf 0x54 yards farms 0 total) ++ movesRecord moves) ≡ 16
+pub end-length : (yards farms total moves : ℕ) → length (bytesOf (recordOf totalKind yards farms 0 total) ++ movesRecord moves) ≡ 16
 end-length yards farms total moves =
-    length-append (bytesOf (recordOf 0x54 yards farms 0 total)) (movesRecord moves)
-    ∙ omega (arith, length-bytes (recordOf 0x54 yards farms 0 total), moves-length moves)
+    length-append (bytesOf (recordOf totalKind yards farms 0 total)) (movesRecord moves)
+    ∙ omega (arith, length-bytes (recordOf totalKind yards farms 0 total), moves-length moves)
 
 pub plan-length : (I : Instance) (set total moves : ℕ)
     → length (planBytes I set total moves) ≡ 8 * (count (I .facilities) (member set) + I .clients + 2)
@@ -112,7 +113,7 @@ unfolding planBytes totalRecord
 plan-length I set total moves =
     let opens = join (I .facilities) (openRecord I set) in
     let farms = join (I .clients) (farmRecord I set) in
-    let total-record = bytesOf (recordOf 0x54 (count (I .facilities) (member set)) (I .clients) 0 total) in
+    let total-record = bytesOf (recordOf totalKind (count (I .facilities) (member set)) (I .clients) 0 total) in
     omega (
       arith,
       length-append (opens ++ farms ++ total-record) (movesRecord moves),
@@ -120,41 +121,41 @@ plan-length I set total moves =
       length-append opens farms,
       opens-length I set (I .facilities),
       farms-length I set (I .clients),
-      length-bytes (recordOf 0x54 (count (I .facilities) (member set)) (I .clients) 0 total),
+      length-bytes (recordOf totalKind (count (I .facilities) (member set)) (I .clients) 0 total),
       moves-length moves,
     )
 
 -- ---- question 9
 
 module _ (m n room : ℕ) where
-  pub many-yards : 32 < m → planFits m n room ≡ false
+  pub many-yards : mostYards < m → planFits m n room ≡ false
   unfolding planFits
-  many-yards h = rw (lt-leb m 32 h)
+  many-yards h = rw (lt-leb m mostYards h)
 
-  pub many-farms : m ≤ 32 → 128 < n → planFits m n room ≡ false
+  pub many-farms : m ≤ mostYards → mostFarms < n → planFits m n room ≡ false
   unfolding planFits
-  many-farms f h = rw (le-leb m 32 f, lt-leb n 128 h)
+  many-farms f h = rw (le-leb m mostYards f, lt-leb n mostFarms h)
 
   -- within the bounds it is question 9
-  pub fits-within : m ≤ 32 → n ≤ 128 → planFits m n room ≡ question9 m n room
+  pub fits-within : m ≤ mostYards → n ≤ mostFarms → planFits m n room ≡ question9 m n room
   unfolding planFits
-  fits-within f g = rw (le-leb m 32 f, le-leb n 128 g)
+  fits-within f g = rw (le-leb m mostYards f, le-leb n mostFarms g)
 
   -- what an area that the plan fits has
   pub record Fits : Type 0 where
-    pub few-yards : m ≤ 32
-    pub few-farms : n ≤ 128
+    pub few-yards : m ≤ mostYards
+    pub few-farms : n ≤ mostFarms
     pub enough : 8 * (m + n + 2) ≤ room
 
   pub fits-says : planFits m n room ≡ true → Fits
   unfolding planFits question9
   fits-says h =
-      let rest = leb n 128 && question9 m n room in
-      let others : rest ≡ true = and-right (leb m 32) rest h in
+      let rest = leb n mostFarms && question9 m n room in
+      let others : rest ≡ true = and-right (leb m mostYards) rest h in
       record {
-        few-yards = leb-true m 32 (and-left (leb m 32) rest h);
-        few-farms = leb-true n 128 (and-left (leb n 128) (question9 m n room) others);
-        enough = leb-true (8 * (m + n + 2)) room (and-right (leb n 128) (question9 m n room) others);
+        few-yards = leb-true m mostYards (and-left (leb m mostYards) rest h);
+        few-farms = leb-true n mostFarms (and-left (leb n mostFarms) (question9 m n room) others);
+        enough = leb-true (8 * (m + n + 2)) room (and-right (leb n mostFarms) (question9 m n room) others);
       }
 
   -- the records of a sheet with so many yards and farms are few
@@ -184,7 +185,7 @@ module _ (s : List ℕ) (m n set total moves room : ℕ) where
 
 -- the last two have room
 pub end-room : (m n set room opened : ℕ) → planFits m n room ≡ true → opened ≡ count m (member set)
-    → (opened ≤ 32) × (n ≤ 128) × (8 * (opened + n + 2) ≤ room)
+    → (opened ≤ mostYards) × (n ≤ mostFarms) × (8 * (opened + n + 2) ≤ room)
 end-room m n set room opened fits e =
     let f = fits-says m n room fits in
     let few : opened ≤ m = omega (arith, count-le m (member set)) in
@@ -194,13 +195,13 @@ pub writes-all : (s : List ℕ) (m n set total moves : ℕ) (area₀ area₁ are
     → planFits m n (length area₀) ≡ true → 8 * (m + n * m) ≤ length s → opened ≡ count m (member set)
     → area₁ ≡ splice area₀ 0 (join m (openRecord (instanceBy s m n) set) ++ join n (farmRecord (instanceBy s m n) set))
     → end ≡ 8 * (opened + n + 2)
-    → area₂ ≡ splice area₁ (8 * (opened + n)) (bytesOf (recordOf 0x54 opened n 0 total) ++ movesRecord moves)
+    → area₂ ≡ splice area₁ (8 * (opened + n)) (bytesOf (recordOf totalKind opened n 0 total) ++ movesRecord moves)
     → (end ≡ length (writing s m n set total moves (length area₀)))
     × (area₂ ≡ splice area₀ 0 (writing s m n set total moves (length area₀)))
 writes-all s m n set total moves area₀ area₁ area₂ opened end fits enough e put₁ e₂ put₂ =
     let opens = join m (openRecord (instanceBy s m n) set) in
     let farms = join n (farmRecord (instanceBy s m n) set) in
-    let last = bytesOf (recordOf 0x54 opened n 0 total) ++ movesRecord moves in
+    let last = bytesOf (recordOf totalKind opened n 0 total) ++ movesRecord moves in
     let parts : writing s m n set total moves (length area₀) ≡ opens ++ farms ++ last =
     writes-plan s m n set total moves (length area₀) fits enough ∙ rw e (plan-parts s m n set total moves) in
     let long : length (opens ++ farms) ≡ 8 * (opened + n) =

@@ -1,10 +1,10 @@
--- `put_end` meets its contract: two records, one behind the other.
+-- `put_total_and_moves` meets its contract: two records, one behind the other.
 use native.Mathlib.Omega.{arith}
 use Rattle.price.specs.Plan.{movesRecord}
 use Rattle.price.proofs.WriteLaws.{put-two}
 use borrow.Author.Needs.{needs}
-use Rattle.price.proofs.plan.put_end.Statement.{statement}
-use Rattle.price.proofs.plan.put_end.Tie as tie
+use Rattle.price.proofs.plan.put_total_and_moves.Statement.{statement}
+use Rattle.price.proofs.plan.put_total_and_moves.Tie as tie
 
 add-at : tie.Need-add-at
 add-at c = search needs
@@ -49,8 +49,8 @@ returns c = let second = c .before .before in
     let made = first .before .before in
     (omega arith, put-two _ _ _ _ _ _ _ _ (omega arith) (made .before .new .ensures) (first .put .ensures) (made .new2 .ensures) (second .put2 .ensures))
 
-pub put-end-spec : {M : Type 1} → statement M
-put-end-spec =
+pub put-total-and-moves-spec : {M : Type 1} → statement M
+put-total-and-moves-spec =
     tie.close
     (tie.spec
     add-at
