@@ -1,7 +1,6 @@
--- SheetTableLaws: the tables that a sheet is read into. SheetSearchLaws: what every plan goes through. PlanningLaws: the cases of the two plans.
+-- SheetTableLaws: the tables that a sheet is read into. PlanningLaws: the cases of the two plans.
 -- PromiseLaws: "no move left" and demand 3. MarkedCases: document 01's marked cases.
 pub mod SheetTableLaws
-pub mod SheetSearchLaws
 pub mod PlanningLaws
 pub mod PromiseLaws
 pub mod MarkedCases

@@ -2,7 +2,7 @@
 use Prim.Native.Nat.{_≤_, _-_}
 use native.Mathlib.Omega.{arith}
 use borrow.Author.Needs.{needs}
-use Rattle.price.proofs.YardsAndFarmsLaws.{ServedSoFar, served-none, served-more, served-all}
+use Rattle.price.proofs.plan.YardsAndFarmsLaws.{ServedSoFar, served-none, served-more, served-all}
 use Rattle.price.proofs.plan.put_farms.Statement.{statement}
 use Rattle.price.proofs.plan.put_farms.Tie as tie
 

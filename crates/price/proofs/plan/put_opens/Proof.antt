@@ -4,7 +4,7 @@ use native.Mathlib.Omega.{arith}
 use lib.ListN.{length}
 use borrow.Author.Needs.{needs}
 use Rattle.sets.proofs.MemberLaws.{listed-next}
-use Rattle.price.proofs.YardsAndFarmsLaws.{Opened, opened-none, open-room, opened-small, opened-more, opened-all}
+use Rattle.price.proofs.plan.YardsAndFarmsLaws.{Opened, opened-none, open-room, opened-small, opened-more, opened-all}
 use Rattle.price.proofs.plan.put_opens.Statement.{statement}
 use Rattle.price.proofs.plan.put_opens.Tie as tie
 

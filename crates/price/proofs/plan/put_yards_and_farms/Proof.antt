@@ -1,7 +1,7 @@
 -- `put_yards_and_farms` meets its contract: the set's yards are listed once, for their own records and for those of the farms.
 use native.Mathlib.Omega.{arith}
 use Rattle.sets.proofs.MemberLaws.{part-room, part-small, part-length, part-numbers, part-count, part-few}
-use Rattle.price.proofs.YardsAndFarmsLaws.{total-is, body-is}
+use Rattle.price.proofs.plan.YardsAndFarmsLaws.{total-is, body-is}
 use borrow.Author.Needs.{needs}
 use Rattle.price.proofs.plan.put_yards_and_farms.Statement.{statement}
 use Rattle.price.proofs.plan.put_yards_and_farms.Tie as tie

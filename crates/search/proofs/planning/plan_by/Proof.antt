@@ -12,7 +12,7 @@ use Rattle.questions.proofs.AcceptedLaws.{accepts, shape-of}
 use Rattle.price.proofs.PricingLaws.{as-outcome}
 use Rattle.search.specs.SearchEnds.{planOf}
 use Rattle.search.proofs.SheetTableLaws.{tables-good}
-use Rattle.search.proofs.SheetSearchLaws.{same-end}
+use Rattle.search.proofs.planning.SheetSearchLaws.{same-end}
 use Rattle.search.proofs.PlanningLaws.{end-small}
 use Rattle.search.proofs.planning.plan_by.Statement.{statement}
 use Rattle.search.proofs.planning.plan_by.Tie as tie

@@ -2,7 +2,7 @@
 use native.Mathlib.Omega.{arith}
 use borrow.Author.Needs.{needs}
 use Rattle.engine.proofs.TableLaws.{good-when}
-use Rattle.search.proofs.SheetSearchLaws.{settles, not-stopped, not-refused}
+use Rattle.search.proofs.planning.SheetSearchLaws.{settles, not-stopped, not-refused}
 use Rattle.search.proofs.planning.search_on.Statement.{statement}
 use Rattle.search.proofs.planning.search_on.Tie as tie
 

@@ -6,7 +6,7 @@ use Rattle.model.proofs.Bools.{said-no, said-yes}
 use Rattle.model.proofs.PlaceLaws.{few-places}
 use Rattle.questions.proofs.QuestionLaws.{right-length}
 use Rattle.questions.proofs.FormLaws.{yards-le}
-use Rattle.sheet.proofs.OnePassLaws.{yards-counted, passes}
+use Rattle.sheet.proofs.one_pass.OnePassLaws.{yards-counted, passes}
 use Rattle.sheet.proofs.ToldLaws.{bad-length, bad-yards, bad-farms, left-over, bad-farm}
 use borrow.Author.Needs.{needs}
 use Rattle.sheet.proofs.one_pass.counts_of.Statement.{statement}

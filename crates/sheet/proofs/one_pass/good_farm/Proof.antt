@@ -11,7 +11,7 @@ use Rattle.model.proofs.LoopLaws.{all-none, all-more, all-stops}
 use Rattle.sheet.specs.Hauls.{Filled}
 use Rattle.sheet.specs.OnePass.{goodHaul, goodFarm}
 use Rattle.sheet.proofs.HaulLaws.{filled-more, filled-farm}
-use Rattle.sheet.proofs.OnePassLaws.{haul-tested, haul-read, haul-low}
+use Rattle.sheet.proofs.one_pass.OnePassLaws.{haul-tested, haul-read, haul-low}
 use Rattle.sheet.proofs.one_pass.good_farm.Statement.{statement}
 use Rattle.sheet.proofs.one_pass.good_farm.Tie as tie
 

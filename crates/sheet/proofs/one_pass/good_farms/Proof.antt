@@ -10,8 +10,8 @@ use Rattle.model.proofs.Bools.{clash, said-no, said-yes}
 use Rattle.model.proofs.LoopLaws.{all-none, all-more, all-stops}
 use Rattle.sheet.specs.Hauls.{Filled}
 use Rattle.sheet.specs.OnePass.{goodFarm}
-use Rattle.questions.proofs.ShapeLaws.{fewer-farms}
 use Rattle.sheet.proofs.HaulLaws.{filled-none}
+use Rattle.sheet.proofs.one_pass.OnePassLaws.{fewer-farms}
 use Rattle.sheet.proofs.one_pass.good_farms.Statement.{statement}
 use Rattle.sheet.proofs.one_pass.good_farms.Tie as tie
 

@@ -10,7 +10,7 @@ use Rattle.model.proofs.LoopLaws.{all-none, all-more, leading-none, leading-mor
 use Rattle.questions.specs.Bounds.{mostYards}
 use Rattle.questions.specs.Sheet.{records, isYard, yards}
 use Rattle.sheet.specs.OnePass.{goodYard}
-use Rattle.sheet.proofs.OnePassLaws.{is-yard, yard-tested, yards-good, yards-many, yards-bad}
+use Rattle.sheet.proofs.one_pass.OnePassLaws.{is-yard, yard-tested, yards-good, yards-many, yards-bad}
 use Rattle.sheet.proofs.one_pass.good_yards.Statement.{statement}
 use Rattle.sheet.proofs.one_pass.good_yards.Tie as tie
 

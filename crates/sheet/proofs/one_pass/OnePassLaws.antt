@@ -1,6 +1,6 @@
 -- The one pass: a sheet on which every record is the one of its place passes questions 2 to 5.
 use Prim.Native.Nat.{ℕ, zero, _+_, _-_, _*_, _/_, _%_, _≤_, _<_}
-use native.Mathlib.Nat.{not-suc-le-zero, zero-add, mod-lt, mod-add-div', div-lt-iff-lt-mul}
+use native.Mathlib.Nat.{mul-le-mul-right, not-suc-le-zero, zero-add, mod-lt, mod-add-div', div-lt-iff-lt-mul}
 use native.Mathlib.Decide.{decLt}
 use native.Mathlib.Omega.{arith}
 use mathlib.Core.Path.{_≡_, refl, sym, ap, subst, _∙_}
@@ -16,6 +16,7 @@ use Rattle.record.specs.declared.Record.{Record}
 use Rattle.record.specs.Records.{recordAt}
 use Rattle.questions.specs.Bounds.{yardKind, haulKind, mostYards, mostFarms, mostFee, mostHaul}
 use Rattle.questions.specs.Sheet.{records, isYard, yards, hauls, farms, place, haul}
+use Rattle.questions.specs.Shape.{Shape}
 use Rattle.questions.specs.Questions.{question1, question2, question3, question4, question5, wellFormed, wellFormedAt, numbered, noYardAfter, haulInPlace, farmInPlace, amountWithin}
 use Rattle.sheet.specs.OnePass.{recordIs, goodYard, goodYards, goodHaul, goodFarm, Passes}
 use Rattle.questions.proofs.ReadingLaws.{Formed, form-yes}
@@ -71,6 +72,11 @@ module _ (s : List ℕ) (m p a : ℕ) (r : Record) (b : Bool) (is : r ≡ record
   haul-low e = omega (arith, says r haulKind a p mostHaul (sym tested ∙ e) .within)
 
 -- ---- the sheet
+
+-- a sheet has its shape with fewer farms too
+pub fewer-farms : (s : List ℕ) (m n k : ℕ) → Shape s m n → k ≤ n → Shape s m k
+fewer-farms s m n k shape l =
+    record { room = omega (arith, mul-le-mul-right m l, shape .room); few-yards = shape .few-yards; few-farms = omega (arith, shape .few-farms) }
 
 module _ (s : List ℕ) (some-yards : 1 ≤ yards s) (few-yards : yards s ≤ mostYards) (some-farms : 1 ≤ farms s) (few-farms : farms s ≤ mostFarms)
     (shared : hauls s ≡ farms s * yards s) (yards-good : allBelow (yards s) (goodYard s) ≡ true)
