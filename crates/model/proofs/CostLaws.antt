@@ -14,7 +14,7 @@ use Rattle.model.proofs.Bools.{same-test}
 use Rattle.model.proofs.LoopLaws.{all-at, all-from, all-fails, all-stops}
 use Rattle.model.proofs.SumLaws.{sum-mono, sum-cong}
 use Rattle.model.proofs.CountLaws.{sum-plus, sum-minus}
-use Rattle.model.proofs.LeastLaws.{Least, arg-least, arg-cong, least-at, least-le, least-cong, least-values, least-scaled}
+use Rattle.model.proofs.LeastLaws.{Least, arg-least, least-at, least-le, least-cong, least-values, least-scaled}
 
 module _ (I : Instance) where
   open Instance I using (facilities as m, clients as n, opening, service, weight)
@@ -117,10 +117,6 @@ module _ (I : Instance) where
     pub nearest-cong : (j : ℕ) → nearest I S j ≡ nearest I T j
     unfolding nearest
     nearest-cong j = least-cong m S T (λ i. service i j) agree
-
-    pub assigned-cong : (j : ℕ) → assigned I S j ≡ assigned I T j
-    unfolding assigned
-    assigned-cong j = arg-cong m S T (λ i. service i j) agree
 
     pub opening-cong : openingCost I S ≡ openingCost I T
     unfolding openingCost

@@ -14,7 +14,6 @@ use Rattle.model.specs.Loops.{on, sum}
 use Rattle.model.specs.Least.{any, arg}
 use Rattle.model.specs.Sets.{count, plus, minus, trade, member, with, without}
 use Rattle.model.proofs.Bools.{cases, or-left, eqb-self}
-use Rattle.model.proofs.SumLaws.{sum-cong}
 use Rattle.model.proofs.CountLaws.{count-zero, count-cong, count-under, count-plus, count-minus}
 use Rattle.model.proofs.LeastLaws.{any-of, any-counted, arg-least}
 
@@ -158,10 +157,6 @@ sum-bits (suc m) set =
 
 pub member-sum : (m set : ℕ) → set < 2 ^ m → sum m (λ i. on (member set i) (2 ^ i)) ≡ set
 member-sum m set small = sum-bits m set ∙ mod-eq-of-lt small
-
-pub same-members : (m a b : ℕ) → a < 2 ^ m → b < 2 ^ m → ((i : ℕ) → i < m → member a i ≡ member b i) → a ≡ b
-same-members m a b small-a small-b agree =
-    sym (member-sum m a small-a) ∙ sum-cong m (λ i l. ap (λ (t : Bool). on t (2 ^ i)) (agree i l)) ∙ member-sum m b small-b
 
 pub some-member : (m set : ℕ) → set < 2 ^ m → 0 < set → any m (member set) ≡ true
 some-member m set small some =

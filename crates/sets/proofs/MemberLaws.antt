@@ -243,9 +243,6 @@ module _ (set m : ℕ) (few : m ≤ 32) where
   pub list-length : length (membersBelow m set .list) ≡ 32
   list-length = places-32 set m (membersBelow m set) refl
 
-  pub list-front : take (membersBelow m set .count) (membersBelow m set .list) ≡ risingBelow m set
-  list-front = part-numbers set m (membersBelow m set) refl few
-
   -- each place is the next number of the set
   pub member-at : (t : ℕ) → t < membersBelow m set .count
       → Next set m (passed (membersBelow m set .list) t) (getD (membersBelow m set .list) t 0)
