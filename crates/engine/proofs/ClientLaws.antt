@@ -3,18 +3,16 @@ use Prim.Native.Nat.{ℕ, _+_, _%_, _≤_, _<_}
 use native.Mathlib.Nat.{not-suc-le-zero}
 use native.Mathlib.Omega.{arith}
 use mathlib.Core.Path.{_≡_, refl, sym, ap, subst, _∙_}
-use mathlib.Core.Bool.{Bool, true, false, not, _&&_}
+use mathlib.Core.Bool.{Bool, false, not, _&&_}
 use mathlib.Core.List.{List}
-use borrow.Author.Tests.{leb-true, le-leb, lt-leb, ne-eqb, not-true}
-use lib.Dec.{leb}
+use borrow.Author.Tests.{ne-eqb}
 use Rattle.model.specs.Sets.{member, plus}
 use Rattle.model.specs.TwoLeast.{Two, insert}
-use Rattle.model.proofs.Bools.{and-left, and-right}
 use Rattle.model.proofs.LoopLaws.{up-to}
 use Rattle.sets.specs.declared.Members.{Members}
 use Rattle.sets.specs.Members.{membersOf}
 use Rattle.engine.specs.Bounds.{mostClients}
-use Rattle.engine.specs.Near.{InOrder, nearTwo, twoOf, nearOf, Moved, arrivalAt, goesTo, Listed, keeps}
+use Rattle.engine.specs.Near.{InOrder, nearTwo, twoOf, nearOf, Moved, arrivalAt, goesTo, Listed}
 use Rattle.engine.specs.Sums.{firstAt, secondAt, NearAt, Uncounted, NearUpTo, NearFrom, Others, PutAt}
 use Rattle.engine.specs.declared.near.Near.{Near}
 use Rattle.engine.proofs.NearLaws.{near-stays, near-with, near-in-order}
@@ -93,32 +91,15 @@ near-same : (m : ℕ) (service kept : List ℕ) (set next j : ℕ) → nearTwo m
 near-same m service kept set next j e h =
     record { first = h .first ∙ sym (ap (λ (t : Two). t .first) e); second = h .second ∙ sym (ap (λ (t : Two). t .second) e) }
 
-module _ (near : Near) (arrived went : ℕ) where
-  pub keeps-asks : {hit : Bool} → near .second ≤ arrived → hit ≡ goesTo near went → not hit ≡ keeps near arrived went
-  unfolding keeps
-  keeps-asks l e = rw (le-leb (near .second) arrived l, e)
-
-  pub keeps-not : arrived < near .second → leb (near .second) arrived ≡ keeps near arrived went
-  unfolding keeps
-  keeps-not l = rw (lt-leb (near .second) arrived l)
-
-  keeps-said : keeps near arrived went ≡ true → (near .second ≤ arrived) × (goesTo near went ≡ false)
-  unfolding keeps
-  keeps-said h = (
-    leb-true (near .second) arrived (and-left (leb (near .second) arrived) (not (goesTo near went)) h),
-    not-true (goesTo near went) (and-right (leb (near .second) arrived) (not (goesTo near went)) h),
-  )
-
--- so its places hold the two nearest of the next set
+-- the one that came is no nearer and neither of the two went, so its places hold the two nearest of the next set
 pub near-kept : (m : ℕ) (service kept : List ℕ) (set next came went j arrived : ℕ) → m ≤ 32 → Moved m set next came went
-    → NearAt m service kept set j → arrived ≡ arrivalAt m service came j
-    → keeps (record { first = firstAt kept j; second = secondAt kept j }) arrived went ≡ true → NearAt m service kept next j
-near-kept m service kept set next came went j arrived few moved here arrives said =
+    → NearAt m service kept set j → arrived ≡ arrivalAt m service came j → secondAt kept j ≤ arrived
+    → goesTo (record { first = firstAt kept j; second = secondAt kept j }) went ≡ false → NearAt m service kept next j
+near-kept m service kept set next came went j arrived few moved here arrives no-nearer stay =
     let near : Near = record { first = firstAt kept j; second = secondAt kept j } in
-    let both = keeps-said near arrived went said in
     near-same m service kept set next j
     (near-stays m service set next came went j few moved near (near-is m service kept set j here)
-    (subst (λ (x : ℕ). secondAt kept j ≤ x) arrives (both .0)) (both .1))
+    (subst (λ (x : ℕ). secondAt kept j ≤ x) arrives no-nearer) stay)
     here
 
 -- ---- where none went
@@ -134,13 +115,9 @@ none-went m set next came went few none moved =
       goes = λ l. let none : ⊥ = omega arith in absurd none;
     }
 
-goes-nowhere : (near : Near) → goesTo near 32 ≡ false
+pub goes-nowhere : (near : Near) → goesTo near 32 ≡ false
 unfolding goesTo
 goes-nowhere near = rw (ne-eqb (near .first % 32) 32 (λ q. omega arith), ne-eqb (near .second % 32) 32 (λ q. omega arith))
-
-pub keeps-joined : (near : Near) (arrived : ℕ) → near .second ≤ arrived → keeps near arrived 32 ≡ true
-unfolding keeps
-keeps-joined near arrived l = rw (le-leb (near .second) arrived l, goes-nowhere near)
 
 -- with the one that came inserted, its two nearest are those of the next set
 pub near-joined : (m : ℕ) (service kept : List ℕ) (set next came j arrived : ℕ) (after : Near) → m ≤ 32 → Moved m set next came 32

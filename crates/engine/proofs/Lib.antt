@@ -1,21 +1,21 @@
--- TableLaws: the tables that are lent and the engine's own. RowLaws: loops over a row. NearLaws, MovedLaws: a client's two nearest, from set to set.
--- KeptLaws, StoredLaws, KeptChangeLaws: the sums. ClientLaws: from client to client. PriceLaws: the sums price every move.
--- ListedLaws, MoveLaws, TakingLaws, ChoosingLaws: going through the moves takes the model's next set. AloneLaws, DescentLaws: the start and the search.
--- SearchLaws: what the call's answer says.
-pub mod TableLaws
-pub mod RowLaws
-pub mod KeptLaws
-pub mod StoredLaws
-pub mod KeptChangeLaws
+-- LentTableLaws, CopiedTableLaws: the tables that are lent and the engine's own. ColumnLaws: the sums of the columns.
+-- NearLaws, MovedLaws: a client's two nearest, from set to set. ClientSumLaws, KeptPlaceLaws, SumChangeLaws: the sums that are kept.
+-- ClientLaws: from client to client. MovePriceLaws: the sums price every move. ListedLaws, MoveLaws, BestMoveLaws, NextSetLaws: going through
+-- the moves takes the model's next set. SingleFacilityLaws, DescentLaws: the start and the search. FoundLaws: what the call's answer says.
+pub mod LentTableLaws
+pub mod ColumnLaws
+pub mod ClientSumLaws
+pub mod KeptPlaceLaws
+pub mod SumChangeLaws
 pub mod NearLaws
 pub mod MovedLaws
-pub mod PriceLaws
-pub mod AloneLaws
+pub mod MovePriceLaws
+pub mod SingleFacilityLaws
 pub mod ClientLaws
 pub mod ListedLaws
 pub mod MoveLaws
-pub mod TakingLaws
-pub mod ChoosingLaws
+pub mod BestMoveLaws
+pub mod NextSetLaws
 pub mod DescentLaws
-pub mod PreparingLaws
-pub mod SearchLaws
+pub mod CopiedTableLaws
+pub mod FoundLaws

@@ -5,7 +5,7 @@ use native.Mathlib.Numerals.{add-one}
 use native.Mathlib.Omega.{arith}
 use native.Mathlib.Decide.{decLt}
 use mathlib.Core.Path.{_≡_, refl, sym, ap, _∙_}
-use mathlib.Core.Bool.{Bool, true, false, not, _&&_, _||_}
+use mathlib.Core.Bool.{Bool, true, false, not, _&&_, _||_, and-false}
 use borrow.Author.Tests.{ne-eqb, eqb-true}
 use lib.Dec.{eqb}
 use Rattle.model.specs.Loops.{leading}
@@ -32,6 +32,19 @@ leading-is p n k l before at =
 -- i is not new
 abbrev pub old : ℕ → ℕ → ℕ → Bool
 old before after i = not (newAt before after i)
+
+module _ (before after i : ℕ) where
+  pub new-stops : member after i ≡ true → member before i ≡ false → old before after i ≡ false
+  unfolding newAt
+  new-stops is-in was-out = rw (is-in, was-out)
+
+  pub old-in : member before i ≡ true → old before after i ≡ true
+  unfolding newAt
+  old-in was-in = rw (was-in, and-false (member after i))
+
+  pub old-out : member after i ≡ false → old before after i ≡ true
+  unfolding newAt
+  old-out out = rw out
 
 new-is : (before after k : ℕ) → k ≤ 32 → ((i : ℕ) → i < k → newAt before after i ≡ false) → (k < 32 → newAt before after k ≡ true)
     → newIn before after ≡ k

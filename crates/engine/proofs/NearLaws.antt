@@ -9,7 +9,7 @@ use mathlib.Core.Path.{_≡_, refl, sym, ap, _∙_}
 use mathlib.Core.Logic.{inl, inr}
 use mathlib.Core.Bool.{Bool, true, false, cond, not, _&&_, _||_}
 use mathlib.Core.List.{List}
-use borrow.Author.Tests.{le-ltb, ne-eqb, eqb-false}
+use borrow.Author.Tests.{le-ltb, eq-eqb, ne-eqb, eqb-false}
 use lib.Dec.{eqb, ltb}
 use lib.ListN.{length, getD}
 use Rattle.model.specs.Sets.{member, plus, minus}
@@ -25,6 +25,15 @@ use Rattle.engine.specs.Bounds.{noFacility}
 use Rattle.engine.specs.Rows.{entry, Rows}
 use Rattle.engine.specs.Near.{nearTwo, twoOf, nearOf, InOrder, Moved, arrivalAt, goesTo}
 use Rattle.engine.specs.declared.near.Near.{Near}
+
+-- ---- x, which counts as missing where it is the first
+
+module _ (first x other : ℕ) where
+  pub other-first : x ≡ first → other ≡ noFacility → other ≡ otherThan noFacility first x
+  other-first e is = is ∙ sym (ap (λ (t : Bool). cond t noFacility x) (eq-eqb x first e))
+
+  pub other-else : ¬ (x ≡ first) → other ≡ x → other ≡ otherThan noFacility first x
+  other-else ne is = is ∙ sym (ap (λ (t : Bool). cond t noFacility x) (ne-eqb x first ne))
 
 -- ---- a client's row
 
@@ -204,15 +213,21 @@ module _ (m : ℕ) (service : List ℕ) (set next came went j : ℕ) (few : m �
           ]
 
   -- so it is the nearest after the move, with what calls answer
-  pub first-after : (near kept : Near) (arrived first : ℕ) → near ≡ nearOf (nearTwo m service set j) → arrived ≡ arrivalAt m service came j
-      → kept ≡ nearOf (insert arrived (twoOf near)) → first ≡ cond (eqb (kept .first % 32) went) (kept .second) (kept .first)
-      → first ≡ nearTwo m service next j .first
-  unfolding nearTwo
-  first-after near kept arrived first near-is arrived-is kept-is first-is =
-      let e : kept ≡ nearOf (twoLeast noFacility m (plus S came) v) = kept-is ∙ rw (near-is, arrived-is, came-in) in
-      let left = first-left (plus S came) (λ l. or-right (eqb came went) (S went) (moved .goes l)) in
-      let same = two-cong noFacility m (member next) (minus (plus S came) went) v (moved .after) in
-      first-is ∙ rw e (sym (ap (λ (t : Two). t .first) same ∙ left))
+  module _ (near kept : Near) (arrived first : ℕ) (near-is : near ≡ nearOf (nearTwo m service set j)) (arrived-is : arrived ≡ arrivalAt m service came j)
+      (kept-is : kept ≡ nearOf (insert arrived (twoOf near))) where
+    first-after : first ≡ cond (eqb (kept .first % 32) went) (kept .second) (kept .first) → first ≡ nearTwo m service next j .first
+    unfolding nearTwo
+    first-after first-is =
+        let e : kept ≡ nearOf (twoLeast noFacility m (plus S came) v) = kept-is ∙ rw (near-is, arrived-is, came-in) in
+        let left = first-left (plus S came) (λ l. or-right (eqb came went) (S went) (moved .goes l)) in
+        let same = two-cong noFacility m (member next) (minus (plus S came) went) v (moved .after) in
+        first-is ∙ rw e (sym (ap (λ (t : Two). t .first) same ∙ left))
+
+    pub first-gone : kept .first % 32 ≡ went → first ≡ kept .second → first ≡ nearTwo m service next j .first
+    first-gone gone is = first-after (is ∙ sym (ap (λ (t : Bool). cond t (kept .second) (kept .first)) (eq-eqb (kept .first % 32) went gone)))
+
+    pub first-stays : ¬ (kept .first % 32 ≡ went) → first ≡ kept .first → first ≡ nearTwo m service next j .first
+    first-stays stays is = first-after (is ∙ sym (ap (λ (t : Bool). cond t (kept .second) (kept .first)) (ne-eqb (kept .first % 32) went stays)))
 
   -- where neither went, with what calls answer
   pub near-with : (near kept : Near) (arrived : ℕ) → near ≡ nearOf (nearTwo m service set j) → arrived ≡ arrivalAt m service came j

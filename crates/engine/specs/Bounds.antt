@@ -1,17 +1,18 @@
 -- The numbers of the engine, each named here and nowhere written again: bounds of the tables, and where the stretches of the kept table begin.
 use Prim.Native.Nat.{ℕ, _+_, _-_, _*_, _^_}
+use Rattle.rows.specs.Sums.{columns}
 
 -- ---- what the engine takes
 
--- the facilities; a row of service costs is done in so many columns
+-- the facilities: one for each column of a row of service costs
 abbrev pub mostFacilities : ℕ
-mostFacilities = 32
+mostFacilities = columns
 
 -- the clients
 abbrev pub mostClients : ℕ
 mostClients = 128
 
--- A service cost. Two of them are compared as signed numbers of 32 bits, so it stays below 2 ^ 31.
+-- a service cost: below 2 ^ 31, so that differences of two do not wrap
 abbrev pub mostEntry : ℕ
 mostEntry = 2000000000
 
@@ -46,10 +47,7 @@ mostCost = mostOpened + mostServed
 abbrev pub mostAdded : ℕ
 mostAdded = mostCost + noOpening
 
--- what a number of 64 bits stays below, and its highest bit
-abbrev pub wordEnd : ℕ
-wordEnd = 2 ^ 64
-
+-- the highest bit of a number of 64 bits
 abbrev pub topBit : ℕ
 topBit = 2 ^ 63
 

@@ -3,7 +3,7 @@ use Prim.Native.Nat.{ℕ, _%_, _^_, _≤_, _<_}
 use mathlib.Core.Path.{_≡_}
 use mathlib.Core.Bool.{Bool, true, false, cond, not, _&&_, _||_}
 use mathlib.Core.List.{List}
-use lib.Dec.{eqb, leb, ltb}
+use lib.Dec.{eqb, ltb}
 use Rattle.model.specs.Loops.{leading}
 use Rattle.model.specs.Sets.{member, plus, minus}
 use Rattle.model.specs.TwoLeast.{Two, two, twoLeast, packed}
@@ -58,10 +58,6 @@ arrivalAt m service came j = cond (ltb came m) (packed (entry m service j) came)
 -- one of the two is facility o
 unfoldable pub goesTo : Near → ℕ → Bool
 goesTo near o = eqb (near .first % mostFacilities) o || eqb (near .second % mostFacilities) o
-
--- a client keeps its two nearest: neither is the facility that went, and the one that came is no nearer
-unfoldable pub keeps : Near → ℕ → ℕ → Bool
-keeps near arrived went = leb (near .second) arrived && not (goesTo near went)
 
 -- Client j has these two nearest facilities of the set. The move leads to `next`, whose facilities are listed; `arrived` is what the
 -- facility that came is to the client.

@@ -1,5 +1,5 @@
--- The rows of service costs, and what loops over the 32 columns of a row do to tables of sums, for private functions alone.
-use Prim.Native.Nat.{ℕ, _+_, _-_, _*_, _≤_, _<_}
+-- The rows of service costs, the sums of their columns, and rows of prices, for private functions alone.
+use Prim.Native.Nat.{ℕ, _+_, _*_, _≤_, _<_}
 use mathlib.Core.Path.{_≡_}
 use mathlib.Core.Bool.{Bool}
 use mathlib.Core.List.{List}
@@ -18,62 +18,6 @@ pub record Rows (m n : ℕ) (service : List ℕ) : Type 0 where
   pub few-clients : n ≤ mostClients
   pub room : n * m + mostFacilities ≤ length service
   pub within : (k : ℕ) → getD service k 0 ≤ mostEntry
-
--- ---- what the costs of a row are above one cost and not above another
-
--- the row and the two are costs, the first no higher than the second
-pub record RowWithin (service : List ℕ) (row low high : ℕ) : Type 0 where
-  pub costs : (i : ℕ) → i < mostFacilities → getD service (row + i) 0 ≤ mostEntry
-  pub room : row + mostFacilities ≤ length service
-  pub ordered : low ≤ high
-  pub high-cost : high ≤ mostEntry
-
-abbrev pub Differences : ℕ → List ℕ → ℕ → ℕ → ℕ → List ℕ → Type 0
-Differences count service row low high by =
-    (i : ℕ) → i < count → getD by i 0 + (getD service (row + i) 0 - high) ≡ getD service (row + i) 0 - low
-
--- ---- sums that rise or fall by the numbers of a row
-
--- so many sums from `at` on have risen, or fallen, by as many numbers, and the others are as they were
-pub record Risen (count : ℕ) (by before : List ℕ) (at : ℕ) (after : List ℕ) : Type 0 where
-  pub inside : (i : ℕ) → i < count → getD after (at + i) 0 ≡ getD before (at + i) 0 + getD by i 0
-  pub below : (k : ℕ) → k < at → getD after k 0 ≡ getD before k 0
-  pub above : (k : ℕ) → at + count ≤ k → getD after k 0 ≡ getD before k 0
-
-pub record Fallen (count : ℕ) (by before : List ℕ) (at : ℕ) (after : List ℕ) : Type 0 where
-  pub inside : (i : ℕ) → i < count → getD after (at + i) 0 + getD by i 0 ≡ getD before (at + i) 0
-  pub below : (k : ℕ) → k < at → getD after k 0 ≡ getD before k 0
-  pub above : (k : ℕ) → at + count ≤ k → getD after k 0 ≡ getD before k 0
-
--- ---- sums that rise or fall by what the costs of a row are above one cost and not above another
-
--- The 32 sums from `at` on can each take on what its cost is above `plus`, and then give what it is above `minus`; all of these are costs.
-pub record Shiftable (service : List ℕ) (row plus minus : ℕ) (sums : List ℕ) (at : ℕ) : Type 0 where
-  pub costs : (i : ℕ) → i < mostFacilities → getD service (row + i) 0 ≤ mostEntry
-  pub plus-cost : plus ≤ mostEntry
-  pub minus-cost : minus ≤ mostEntry
-  pub row-room : row + mostFacilities ≤ length service
-  pub room : at + mostFacilities ≤ length sums
-  pub enough : (i : ℕ) → i < mostFacilities → getD service (row + i) 0 - minus ≤ getD sums (at + i) 0 + (getD service (row + i) 0 - plus)
-  pub small : (i : ℕ) → i < mostFacilities → getD sums (at + i) 0 ≤ mostServed
-
--- so many sums from `at` on have done so, and the others are as they were
-pub record Shifted (count : ℕ) (service : List ℕ) (row plus minus : ℕ) (before : List ℕ) (at : ℕ) (after : List ℕ) : Type 0 where
-  pub inside : (i : ℕ) → i < count
-      → getD after (at + i) 0 + (getD service (row + i) 0 - minus) ≡ getD before (at + i) 0 + (getD service (row + i) 0 - plus)
-  pub below : (k : ℕ) → k < at → getD after k 0 ≡ getD before k 0
-  pub above : (k : ℕ) → at + count ≤ k → getD after k 0 ≡ getD before k 0
-
--- Of the 32 sums from `addedFrom` on and those from `at` on, which lie behind them, so many have been shifted, each stretch by its own two
--- costs; the other places are as they were.
-pub record ShiftedBoth (service : List ℕ) (row plus₁ minus₁ plus₂ minus₂ : ℕ) (before : List ℕ) (at : ℕ) (after : List ℕ) : Type 0 where
-  pub added : (i : ℕ) → i < mostFacilities
-      → getD after (addedFrom + i) 0 + (getD service (row + i) 0 - minus₁) ≡ getD before (addedFrom + i) 0 + (getD service (row + i) 0 - plus₁)
-  pub more : (i : ℕ) → i < mostFacilities
-      → getD after (at + i) 0 + (getD service (row + i) 0 - minus₂) ≡ getD before (at + i) 0 + (getD service (row + i) 0 - plus₂)
-  pub below : (k : ℕ) → k < addedFrom → getD after k 0 ≡ getD before k 0
-  pub between : (k : ℕ) → lossFrom ≤ k → k < at → getD after k 0 ≡ getD before k 0
-  pub above : (k : ℕ) → at + mostFacilities ≤ k → getD after k 0 ≡ getD before k 0
 
 -- ---- the sums of columns
 

@@ -59,7 +59,7 @@ pub record NearAt (m : ℕ) (service kept : List ℕ) (set j : ℕ) : Type 0 whe
   pub second : secondAt kept j ≡ nearTwo m service set j .second
 
 -- the table is that of the set, which has a facility
-pub record Standing (m n : ℕ) (service : List ℕ) (set : ℕ) (kept : List ℕ) : Type 0 where
+pub record KeptOf (m n : ℕ) (service : List ℕ) (set : ℕ) (kept : List ℕ) : Type 0 where
   pub sums : Kept m n service kept
   pub near : (j : ℕ) → j < n → NearAt m service kept set j
   pub below : set < 2 ^ m

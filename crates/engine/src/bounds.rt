@@ -1,5 +1,5 @@
 // The numbers of the engine (specs/Bounds.antt says what each is for).
-pub(crate) const MOST_FACILITIES: usize = 32;
+pub(crate) const MOST_FACILITIES: usize = rows::COLUMNS;
 
 pub(crate) const MOST_CLIENTS: usize = 128;
 

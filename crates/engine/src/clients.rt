@@ -5,8 +5,8 @@ ghost use Prim.Native.Nat.{_^_, _<_};
 ghost use Rattle.model.specs.Least.{any};
 ghost use Rattle.model.specs.Sets.{member};
 ghost use Rattle.engine.specs.Bounds.{mostFacilities};
-ghost use Rattle.engine.specs.Near.{Moved, newIn, Listed, keeps};
-ghost use Rattle.engine.specs.Sums.{Kept, NearAt, Standing, Uncounted, NearUpTo, NearFrom, Others};
+ghost use Rattle.engine.specs.Near.{Moved, newIn, Listed};
+ghost use Rattle.engine.specs.Sums.{Kept, NearAt, KeptOf, Uncounted, NearUpTo, NearFrom, Others};
 use crate::bounds::MOST_FACILITIES;
 use crate::bounds::SECONDS;
 use crate::near::Near;
@@ -62,19 +62,12 @@ fn begin_clients(
 // Counts every client for a first set.
 pub(crate) fn begin(service: &[u32], m: usize, n: usize, set: u32, kept: &mut [u64])
     requires { ⌜ Kept m n (now service) (now kept) × NearUpTo m n (now service) (now kept) set 0 × (set < 2 ^ m) × (any m (member set) ≡ true) ⌝ }
-    ensures { λ _. ⌜ Standing m n (now (service .entry)) set (now (kept .exit)) ⌝ }
+    ensures { λ _. ⌜ KeptOf m n (now (service .entry)) set (now (kept .exit)) ⌝ }
 {
     let members = sets::members_of(set);
     let list = members.list;
     let count = members.count;
     begin_clients(service, m, n, set, &list, count, kept);
-}
-
-// Does the client keep its two nearest?
-fn keeps_both(near: Near, arrived: u64, went: usize) -> bool
-    ensures { λ r. ⌜ r ≡ keeps near arrived went ⌝ }
-{
-    near.second <= arrived && !goes_to(near, went)
 }
 
 // Client j after a move. Most clients keep both.
@@ -101,7 +94,7 @@ fn move_client(
         second: kept[SECONDS + j],
     };
     let arrived = arrival(service, m, n, j, came);
-    if keeps_both(near, arrived, went) {
+    if near.second <= arrived && !goes_to(near, went) {
         return;
     }
     let after = near_after(
@@ -195,8 +188,8 @@ fn add_clients(
 
 // Goes from a set to the next one, which a move makes of it.
 pub(crate) fn move_to(service: &[u32], m: usize, n: usize, set: u32, next: u32, kept: &mut [u64])
-    requires { ⌜ Standing m n (now service) set (now kept) × Moved m set next (newIn set next) (newIn next set) × (next < 2 ^ m) × (any m (member next) ≡ true) ⌝ }
-    ensures { λ _. ⌜ Standing m n (now (service .entry)) next (now (kept .exit)) ⌝ }
+    requires { ⌜ KeptOf m n (now service) set (now kept) × Moved m set next (newIn set next) (newIn next set) × (next < 2 ^ m) × (any m (member next) ≡ true) ⌝ }
+    ensures { λ _. ⌜ KeptOf m n (now (service .entry)) next (now (kept .exit)) ⌝ }
 {
     let came = newcomer(set, next);
     let went = newcomer(next, set);

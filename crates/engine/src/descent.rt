@@ -1,17 +1,17 @@
 // The search: from a start, the best move while it lowers the cost and a move is left.
 ghost use mathlib.Core.Path.{_≡_};
 ghost use mathlib.Core.Bool.{true};
-ghost use Prim.Native.Nat.{_+_, _^_, _≤_, _<_};
-ghost use lib.ListN.{length, getD};
+ghost use Prim.Native.Nat.{_^_, _≤_, _<_};
+ghost use lib.ListN.{length};
 ghost use Rattle.model.specs.Least.{any};
 ghost use Rattle.model.specs.Sets.{member};
 ghost use Rattle.model.specs.Search.{next};
 ghost use Rattle.model.specs.Limit.{searchWithin};
 ghost use Rattle.model.specs.Plans.{openStart};
-ghost use Rattle.engine.specs.Bounds.{wordEnd, addedFrom, keptLength};
+ghost use Rattle.engine.specs.Bounds.{keptLength};
 ghost use Rattle.engine.specs.Tables.{tabled, tableCost, Openings};
 ghost use Rattle.engine.specs.Rows.{Rows, ColumnSums};
-ghost use Rattle.engine.specs.Sums.{Kept, Standing, NearUpTo};
+ghost use Rattle.engine.specs.Sums.{Kept, KeptOf, NearUpTo};
 ghost use Rattle.engine.specs.Moves.{priced, neighboursBy};
 ghost use Rattle.engine.specs.Search.{startSet, found};
 use crate::Found;
@@ -28,26 +28,18 @@ use crate::moves::Priced;
 use crate::moves::best_move;
 use crate::moves::better_of;
 
-// What a facility costs alone, where it serves every client.
-fn alone_cost(opening: &[u64], kept: &[u64], i: usize) -> u64
-    requires { ⌜ (i < length (now opening)) × (addedFrom + i < length (now kept)) × (getD (now opening) i 0 + getD (now kept) (addedFrom + i) 0 < wordEnd) ⌝ }
-    ensures { λ r. ⌜ r ≡ getD (now (opening .entry)) i 0 + getD (now (kept .entry)) (addedFrom + i) 0 ⌝ }
-{
-    opening[i] + kept[ADDED + i]
-}
-
-// The single facility of least cost, the lowest number among equals, by the sums of the columns.
+// The single facility of least cost, the lowest number among equals: its opening cost and the sum of its column.
 fn cheapest(opening: &[u64], service: &[u32], m: usize, n: usize, kept: &[u64]) -> Priced
     requires { ⌜ Rows m n (now service) × Openings m (now opening) × (1 ≤ m) × (keptLength ≤ length (now kept)) × ColumnSums m n (now service) (now kept) ⌝ }
     ensures { λ r. ⌜ r ≡ priced (tableCost m n (now (opening .entry)) (now (service .entry))) (openStart (tabled m n (now (opening .entry)) (now (service .entry)))) ⌝ }
 {
     let mut b = Priced {
         set: 1,
-        cost: alone_cost(opening, kept, 0),
+        cost: opening[0] + kept[ADDED],
     };
     let mut i = 1;
     while i < m {
-        b = better_of(sets::added(0, i), alone_cost(opening, kept, i), b);
+        b = better_of(sets::added(0, i), opening[i] + kept[ADDED + i], b);
         i += 1;
     }
     b
@@ -76,7 +68,7 @@ pub(crate) fn first_set(
 
 // What the set costs that the kept table is that of.
 fn cost_now(opening: &[u64], service: &[u32], m: usize, n: usize, set: u32, kept: &[u64]) -> u64
-    requires { ⌜ Standing m n (now service) set (now kept) × Openings m (now opening) ⌝ }
+    requires { ⌜ KeptOf m n (now service) set (now kept) × Openings m (now opening) ⌝ }
     ensures { λ r. ⌜ r ≡ tableCost m n (now (opening .entry)) (now (service .entry)) set ⌝ }
 {
     let members = sets::members_of(set);
@@ -95,7 +87,7 @@ fn choose(
     b: Priced,
     kept: &[u64],
 ) -> Priced
-    requires { ⌜ Standing m n (now service) (b .set) (now kept) × Openings m (now opening) × (b ≡ priced (tableCost m n (now opening) (now service)) (b .set)) ⌝ }
+    requires { ⌜ KeptOf m n (now service) (b .set) (now kept) × Openings m (now opening) × (b ≡ priced (tableCost m n (now opening) (now service)) (b .set)) ⌝ }
     ensures { λ r. ⌜ r ≡ priced (tableCost m n (now (opening .entry)) (now (service .entry))) (next (tableCost m n (now (opening .entry)) (now (service .entry))) (neighboursBy neighbourhood m) (b .set)) ⌝ }
 {
     let members = sets::members_of(b.set);

@@ -5,11 +5,11 @@
 // the tables and the start itself: it takes any, and turns down what specs/Search.antt says.
 mod bounds;
 mod clients;
+mod columns;
 mod cost;
 mod descent;
 mod moves;
 mod near;
-mod rows;
 mod sums;
 mod tables;
 
@@ -85,7 +85,7 @@ fn prepare(
     tables::copy_opening(opening, m, openings);
     tables::copy_service(service, n * m, rows);
     tables::put_front(ADDED, NO_FACILITY, kept);
-    rows::add_rows(rows, m, n, kept);
+    columns::add_rows(rows, m, n, kept);
 }
 
 fn search_on(

@@ -1,13 +1,10 @@
 // A client's two nearest facilities: among those of a set, and after a move.
 ghost use mathlib.Core.Path.{_≡_};
-ghost use Prim.Native.Nat.{_%_, _^_, _<_, min};
-ghost use mathlib.Core.Bool.{cond};
-ghost use lib.Dec.{eqb};
+ghost use Prim.Native.Nat.{_^_, _<_};
 ghost use Rattle.model.specs.TwoLeast.{insert, packed};
 ghost use Rattle.sets.specs.Members.{membersOf};
-ghost use Rattle.engine.specs.Bounds.{mostFacilities, noFacility};
 ghost use Rattle.engine.specs.Rows.{Rows, entry};
-ghost use Rattle.engine.specs.Near.{nearTwo, twoOf, nearOf, newAt, newIn, arrivalAt, goesTo, Moving};
+ghost use Rattle.engine.specs.Near.{nearTwo, twoOf, nearOf, newIn, arrivalAt, goesTo, Moving};
 use crate::bounds::COST_STEP;
 use crate::bounds::MOST_FACILITIES;
 use crate::bounds::NO_FACILITY;
@@ -88,20 +85,13 @@ pub(crate) fn goes_to(near: Near, o: usize) -> bool
     (near.first % COST_STEP) as usize == o || (near.second % COST_STEP) as usize == o
 }
 
-// Is i in the one set and not in the other?
-fn is_new(before: u32, after: u32, i: usize) -> bool
-    ensures { λ r. ⌜ r ≡ newAt before after i ⌝ }
-{
-    sets::has(after, i) && !sets::has(before, i)
-}
-
 // The least number in `after` and not in `before`; 32 where there is none.
 pub(crate) fn newcomer(before: u32, after: u32) -> usize
     ensures { λ r. ⌜ r ≡ newIn before after ⌝ }
 {
     let mut i = 0;
     while i < MOST_FACILITIES {
-        if is_new(before, after, i) {
+        if sets::has(after, i) && !sets::has(before, i) {
             return i;
         }
         i += 1;
@@ -109,20 +99,7 @@ pub(crate) fn newcomer(before: u32, after: u32) -> usize
     MOST_FACILITIES
 }
 
-// x, which counts as missing where it is the first.
-fn other_than(first: u64, x: u64) -> u64
-    ensures { λ r. ⌜ r ≡ cond (eqb x first) noFacility x ⌝ }
-{
-    if x == first { NO_FACILITY } else { x }
-}
-
-fn lesser(x: u64, y: u64) -> u64
-    ensures { λ r. ⌜ r ≡ min x y ⌝ }
-{
-    if x < y { x } else { y }
-}
-
-// The second nearest of the set's facilities, which are listed, where the nearest is known.
+// The second nearest of the set's facilities, which are listed, where the nearest is known: that one counts as missing.
 fn second_of(
     service: &[u32],
     m: usize,
@@ -139,24 +116,14 @@ fn second_of(
     let mut least = NO_FACILITY;
     let mut t = 0;
     while t < count {
-        least = lesser(
-            other_than(first, packed_at(service, m, n, j, list[t] as usize)),
-            least,
-        );
+        let x = packed_at(service, m, n, j, list[t] as usize);
+        let other = if x == first { NO_FACILITY } else { x };
+        if other < least {
+            least = other;
+        }
         t += 1;
     }
     least
-}
-
-// The nearer of the two that is left where facility o goes.
-fn first_without(near: Near, o: usize) -> u64
-    ensures { λ r. ⌜ r ≡ cond (eqb (near .first % mostFacilities) o) (near .second) (near .first) ⌝ }
-{
-    if (near.first % COST_STEP) as usize == o {
-        near.second
-    } else {
-        near.first
-    }
 }
 
 // Client j's two nearest after a move, from those before it: where one of them went, the other is the nearest and only the second is sought.
@@ -179,7 +146,11 @@ pub(crate) fn near_after(
 {
     let with_arrival = inserted(arrived, near);
     if goes_to(with_arrival, went) {
-        let first = first_without(with_arrival, went);
+        let first = if (with_arrival.first % COST_STEP) as usize == went {
+            with_arrival.second
+        } else {
+            with_arrival.first
+        };
         return Near {
             first,
             second: second_of(service, m, n, j, next, first, list, count),

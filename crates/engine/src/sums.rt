@@ -3,6 +3,7 @@ ghost use Prim.Native.Nat.{_≤_, _<_};
 ghost use Rattle.engine.specs.Bounds.{noFacility};
 ghost use Rattle.engine.specs.Near.{InOrder};
 ghost use Rattle.engine.specs.Sums.{firstAt, Kept, PutAt, Uncounted};
+use crate::bounds::ADDED;
 use crate::bounds::COST_STEP;
 use crate::bounds::LOSS;
 use crate::bounds::MORE;
@@ -10,9 +11,9 @@ use crate::bounds::MOST_FACILITIES;
 use crate::bounds::NO_FACILITY;
 use crate::bounds::SECONDS;
 use crate::near::Near;
-use crate::rows::shift;
-use crate::rows::shift_in;
-use crate::rows::shift_out;
+use rows::shift;
+use rows::shift_in;
+use rows::shift_out;
 
 // Client j's second nearest is now this one.
 pub(crate) fn set_second(
@@ -30,7 +31,8 @@ pub(crate) fn set_second(
     let o = (kept[j] % COST_STEP) as usize;
     let last = (kept[SECONDS + j] / COST_STEP) as u32;
     let next = (second / COST_STEP) as u32;
-    shift(service, j * m, last, next, kept, MORE + MOST_FACILITIES * o);
+    let row = &service[j * m..j * m + MOST_FACILITIES];
+    shift(row, last, next, kept, MORE + MOST_FACILITIES * o);
     kept[LOSS + o] = kept[LOSS + o] + next as u64 - last as u64;
     kept[SECONDS + j] = second;
 }
@@ -44,14 +46,8 @@ pub(crate) fn enter(service: &[u32], m: usize, n: usize, j: usize, near: Near, k
     let o = (near.first % COST_STEP) as usize;
     let first = (near.first / COST_STEP) as u32;
     let second = (near.second / COST_STEP) as u32;
-    shift_in(
-        service,
-        j * m,
-        first,
-        second,
-        kept,
-        MORE + MOST_FACILITIES * o,
-    );
+    let row = &service[j * m..j * m + MOST_FACILITIES];
+    shift_in(row, first, second, kept, ADDED, MORE + MOST_FACILITIES * o);
     kept[j] = near.first;
     kept[LOSS + o] = kept[LOSS + o] + second as u64 - first as u64;
     kept[SECONDS + j] = near.second;
@@ -66,14 +62,8 @@ fn leave(service: &[u32], m: usize, n: usize, j: usize, kept: &mut [u64])
     let o = (kept[j] % COST_STEP) as usize;
     let first = (kept[j] / COST_STEP) as u32;
     let second = (kept[SECONDS + j] / COST_STEP) as u32;
-    shift_out(
-        service,
-        j * m,
-        first,
-        second,
-        kept,
-        MORE + MOST_FACILITIES * o,
-    );
+    let row = &service[j * m..j * m + MOST_FACILITIES];
+    shift_out(row, first, second, kept, ADDED, MORE + MOST_FACILITIES * o);
     kept[j] = NO_FACILITY;
     kept[LOSS + o] = kept[LOSS + o] + first as u64 - second as u64;
     kept[SECONDS + j] = NO_FACILITY;

@@ -1,11 +1,10 @@
 // The tables: what the engine asks of those that are lent, and its own, in which loops over a row may pass 32 places.
 ghost use mathlib.Core.Path.{_≡_};
 ghost use Prim.Native.Nat.{_*_, _≤_};
-ghost use lib.Dec.{ltb};
 ghost use lib.ListN.{length};
-ghost use Rattle.model.specs.Loops.{on, allBelow};
+ghost use Rattle.model.specs.Loops.{allBelow};
 ghost use Rattle.model.specs.Sets.{count};
-ghost use Rattle.engine.specs.Bounds.{mostFacilities, mostEntry};
+ghost use Rattle.engine.specs.Bounds.{mostFacilities};
 ghost use Rattle.engine.specs.Tables.{Copied, Behind, Front, openingWithin, tooHighAt, goodTables};
 ghost use Rattle.engine.specs.Search.{goodStart};
 use crate::Start;
@@ -29,13 +28,6 @@ fn openings_within(opening: &[u64], m: usize) -> bool
     true
 }
 
-// 1 for an entry above the bound, 0 for another.
-fn one_if_high(entry: u32) -> u32
-    ensures { λ r. ⌜ r ≡ on (ltb mostEntry entry) 1 ⌝ }
-{
-    if MOST_ENTRY < entry { 1 } else { 0 }
-}
-
 // How many of the first so many entries are above the bound. The compiler does several places of this loop at a time.
 fn high_count(service: &[u32], places: usize) -> u32
     requires { ⌜ (places ≤ length (now service)) × (places ≤ 4096) ⌝ }
@@ -44,7 +36,9 @@ fn high_count(service: &[u32], places: usize) -> u32
     let mut total: u32 = 0;
     let mut k = 0;
     while k < places {
-        total += one_if_high(service[k]);
+        if MOST_ENTRY < service[k] {
+            total += 1;
+        }
         k += 1;
     }
     total

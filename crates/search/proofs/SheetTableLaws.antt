@@ -22,7 +22,7 @@ use Rattle.engine.specs.Tables.{tabled, tableCost, goodTables}
 use Rattle.engine.specs.declared.Neighbourhood.{Neighbourhood}
 use Rattle.engine.specs.declared.Neighbourhood.the-variants.{AddDropSwap, Swap}
 use Rattle.model.proofs.PlaceLaws.{front-more, row-within}
-use Rattle.engine.proofs.TableLaws.{good-from}
+use Rattle.engine.proofs.LentTableLaws.{good-from}
 use Rattle.search.specs.SheetTables.{Holds, Free, OpeningBy}
 
 -- ---- filling a table

@@ -5,8 +5,8 @@ use native.Mathlib.Omega.{arith}
 use borrow.Author.Needs.{needs}
 use Rattle.model.proofs.PlaceLaws.{few-places}
 use Rattle.engine.specs.Bounds.{addedFrom}
-use Rattle.engine.proofs.TableLaws.{good-when, rows-of}
-use Rattle.engine.proofs.PreparingLaws.{prepared}
+use Rattle.engine.proofs.LentTableLaws.{good-when, rows-of}
+use Rattle.engine.proofs.CopiedTableLaws.{prepared}
 use Rattle.engine.proofs.prepare.Statement.{statement}
 use Rattle.engine.proofs.prepare.Tie as tie
 

@@ -2,7 +2,7 @@
 use borrow.Author.Needs.{needs}
 use Rattle.model.proofs.Bools.{said-no, said-yes}
 use Rattle.engine.specs.Search.{searching}
-use Rattle.engine.proofs.TableLaws.{good-when}
+use Rattle.engine.proofs.LentTableLaws.{good-when}
 use Rattle.engine.proofs.search.Statement.{statement}
 use Rattle.engine.proofs.search.Tie as tie
 

@@ -25,7 +25,7 @@ use Rattle.engine.specs.declared.Found.{Found}
 use Rattle.engine.specs.declared.Found.the-variants as Found
 use Rattle.engine.specs.declared.Neighbourhood.{Neighbourhood}
 use Rattle.engine.specs.declared.Neighbourhood.the-variants.{AddDropSwap, Swap}
-use Rattle.engine.proofs.SearchLaws.{unbroken}
+use Rattle.engine.proofs.FoundLaws.{unbroken}
 use Rattle.search.specs.SheetTables.{Holds, OpeningBy}
 use Rattle.search.specs.SearchEnds.{settledAt, openEnd, limitedEnd}
 use Rattle.search.specs.PlanKinds.{startBy, endBy}

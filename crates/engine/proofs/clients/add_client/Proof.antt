@@ -1,5 +1,5 @@
 -- `clients::add_client` meets its contract: a client that keeps its two nearest is left, another one's are put anew.
-use Rattle.engine.proofs.ClientLaws.{near-put, near-ordered, near-kept, near-joined, others-same, keeps-joined}
+use Rattle.engine.proofs.ClientLaws.{near-put, near-ordered, near-kept, near-joined, others-same, goes-nowhere}
 use borrow.Author.Needs.{needs}
 use Rattle.engine.proofs.clients.add_client.Statement.{statement}
 use Rattle.engine.proofs.clients.add_client.Tie as tie
@@ -29,7 +29,7 @@ returns c = let arrived = c .before .before .arrival in
     let pre = start .pre in
     let here =
     near-kept (a .m) (a .service .now) (a .kept .now) (a .set) (a .next) (a .came) 32 (a .j) (arrived .result) (pre .0 .rows .few-facilities)
-    (pre .3) (pre .2) (arrived .ensures) (keeps-joined _ _ (c .if1 .taken))
+    (pre .3) (pre .2) (arrived .ensures) (c .if1 .taken) (goes-nowhere _)
     in
     (pre .0, (here, others-same (a .j) (a .kept .now)))
 

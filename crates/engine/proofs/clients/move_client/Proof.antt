@@ -1,5 +1,5 @@
 -- `clients::move_client` meets its contract: a client that keeps its two nearest is left, another one's are put anew.
-use mathlib.Core.Path.{sym, _∙_}
+use Rattle.model.proofs.Bools.{said-no}
 use Rattle.engine.proofs.ClientLaws.{near-is, near-put, near-ordered, near-kept, others-same}
 use borrow.Author.Needs.{needs}
 use Rattle.engine.proofs.clients.move_client.Statement.{statement}
@@ -23,17 +23,17 @@ slice-read-t21 c = search needs
 arrival-requires : tie.Need-arrival-requires
 arrival-requires c κs = search needs
 
-keeps-both-requires : tie.Need-keeps-both-requires
-keeps-both-requires c κs = search needs
+goes-to-requires : tie.Need-goes-to-requires
+goes-to-requires c κs = search needs
 
 returns : tie.Need-returns
-returns c = let arrived = c .before .before .arrival in
-    let start = c .before .before .before .before .before .before .before .before in
+returns c = let arrived = c .before .before .before .before .arrival in
+    let start = c .before .before .before .before .before .before .before .before .before .before in
     let a = start .args in
     let pre = start .pre in
     let here =
     near-kept (a .m) (a .service .now) (a .kept .now) (a .set) (a .next) (a .came) (a .went) (a .j) (arrived .result) (pre .0 .rows .few-facilities)
-    (pre .3) (pre .2) (arrived .ensures) (sym (c .before .keeps-both .ensures) ∙ c .if1 .taken)
+    (pre .3) (pre .2) (arrived .ensures) (c .before .before .if1 .taken) (said-no (c .before .goes-to .ensures) (c .if2 .taken))
     in
     (pre .0, (here, others-same (a .j) (a .kept .now)))
 
@@ -79,7 +79,7 @@ move-client-spec =
     mul-t19
     slice-read-t21
     arrival-requires
-    keeps-both-requires
+    goes-to-requires
     returns
     near-after-requires
     change-requires

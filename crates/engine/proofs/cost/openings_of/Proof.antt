@@ -1,6 +1,6 @@
 -- `cost::openings_of` meets its contract. The invariant: the total is the sum of the opening costs passed, each within its bound.
 use Rattle.engine.proofs.MoveLaws.{widens8}
-use Rattle.engine.proofs.TakingLaws.{openings-none, openings-more}
+use Rattle.engine.proofs.BestMoveLaws.{openings-none, openings-more}
 use Prim.Native.Nat.{_≤_, _-_, _*_}
 use native.Mathlib.Omega.{arith}
 use mathlib.Core.Path.{_≡_}

@@ -5,7 +5,7 @@ use native.Mathlib.Omega.{arith}
 use lib.ListN.{length}
 use Rattle.model.proofs.NeighbourLaws.{move-keeps}
 use Rattle.engine.specs.Tables.{tableCost}
-use Rattle.engine.specs.Sums.{Standing}
+use Rattle.engine.specs.Sums.{KeptOf}
 use Rattle.engine.specs.Moves.{neighboursBy}
 use Rattle.engine.proofs.MovedLaws.{moved-is}
 use Rattle.engine.proofs.DescentLaws.{Going, going-starts, going-on, going-settles, going-stops, step-move}
@@ -14,7 +14,7 @@ use Rattle.engine.proofs.descent.descend.Tie as tie
 
 abbrev Inv-loop : tie.InvT-loop
 Inv-loop neighbourhood start limit opening service m n kept₀ b₀ moves₀ kept b moves = Going (tableCost m n opening service) (neighboursBy neighbourhood m) limit start b moves
-    × Standing m n service (b .set) kept × (length kept ≡ length kept₀)
+    × KeptOf m n service (b .set) kept × (length kept ≡ length kept₀)
 
 abbrev μ-loop : tie.MeasureT-loop
 μ-loop neighbourhood start limit opening service m n kept₀ b₀ moves₀ kept b moves = b .cost

@@ -6,7 +6,7 @@ use borrow.Author.Needs.{needs}
 use Rattle.model.specs.Passing.{through}
 use Rattle.model.proofs.PassingLaws.{through-none}
 use Rattle.engine.specs.Moves.{addAtCost, bestAdd}
-use Rattle.engine.proofs.TakingLaws.{adds-more}
+use Rattle.engine.proofs.BestMoveLaws.{adds-more}
 use Rattle.engine.proofs.moves.best_add.Statement.{statement}
 use Rattle.engine.proofs.moves.best_add.Tie as tie
 

@@ -8,7 +8,7 @@ use borrow.Author.Tests.{lt-ltb, le-ltb}
 use Rattle.model.specs.Passing.{through}
 use Rattle.model.proofs.PassingLaws.{through-none}
 use Rattle.engine.specs.Moves.{atPlace, tryDrop, bestDrop}
-use Rattle.engine.proofs.TakingLaws.{drops-more}
+use Rattle.engine.proofs.BestMoveLaws.{drops-more}
 use Rattle.engine.proofs.moves.best_drop.Statement.{statement}
 use Rattle.engine.proofs.moves.best_drop.Tie as tie
 

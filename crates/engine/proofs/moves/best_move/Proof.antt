@@ -1,5 +1,5 @@
 -- `moves::best_move` meets its contract: the adds, the drops, the swaps, each from where the last ended; or the swaps alone.
-use Rattle.engine.proofs.TakingLaws.{both-fall, taken-all, taken-swap}
+use Rattle.engine.proofs.BestMoveLaws.{both-fall, taken-all, taken-swap}
 use borrow.Author.Needs.{needs}
 use Rattle.engine.proofs.moves.best_move.Statement.{statement}
 use Rattle.engine.proofs.moves.best_move.Tie as tie

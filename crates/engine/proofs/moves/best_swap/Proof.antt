@@ -8,7 +8,7 @@ use Rattle.model.proofs.PassingLaws.{through-none}
 use Rattle.engine.specs.Bounds.{mostCost}
 use Rattle.engine.specs.Moves.{atPlace, swapOut, bestSwap}
 use Rattle.engine.proofs.MoveLaws.{widens8}
-use Rattle.engine.proofs.TakingLaws.{out-falls, rows-more}
+use Rattle.engine.proofs.BestMoveLaws.{out-falls, rows-more}
 use Rattle.engine.proofs.moves.best_swap.Statement.{statement}
 use Rattle.engine.proofs.moves.best_swap.Tie as tie
 

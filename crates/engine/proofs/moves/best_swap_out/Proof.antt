@@ -6,7 +6,7 @@ use borrow.Author.Needs.{needs}
 use Rattle.model.specs.Passing.{through}
 use Rattle.model.proofs.PassingLaws.{through-none}
 use Rattle.engine.specs.Moves.{swapAtCost, bestSwapOut}
-use Rattle.engine.proofs.TakingLaws.{row-stays, row-more}
+use Rattle.engine.proofs.BestMoveLaws.{row-stays, row-more}
 use Rattle.engine.proofs.moves.best_swap_out.Statement.{statement}
 use Rattle.engine.proofs.moves.best_swap_out.Tie as tie
 

@@ -3,7 +3,7 @@ use Prim.Native.Nat.{_≤_, _<_}
 use native.Mathlib.Omega.{arith}
 use mathlib.Core.Path.{sym, _∙_}
 use borrow.Author.Needs.{needs}
-use Rattle.engine.proofs.TakingLaws.{add-dear, add-open, add-taken}
+use Rattle.engine.proofs.BestMoveLaws.{add-dear, add-open, add-taken}
 use Rattle.engine.proofs.moves.try_add.Statement.{statement}
 use Rattle.engine.proofs.moves.try_add.Tie as tie
 

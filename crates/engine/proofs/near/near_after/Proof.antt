@@ -1,7 +1,8 @@
 -- `near::near_after` meets its contract: where neither of the two went, only the one that came can change them; else the one that is left
 -- is the nearest.
 use mathlib.Core.Path.{sym, _∙_}
-use Rattle.engine.proofs.NearLaws.{near-with, first-after}
+use mathlib.Core.Logic.{⊎-elim}
+use Rattle.engine.proofs.NearLaws.{near-with, first-gone, first-stays}
 use borrow.Author.Needs.{needs}
 use Rattle.engine.proofs.near.near_after.Statement.{statement}
 use Rattle.engine.proofs.near.near_after.Tie as tie
@@ -12,22 +13,23 @@ inserted-requires c κs = search needs
 goes-to-requires : tie.Need-goes-to-requires
 goes-to-requires c κs = search needs
 
-first-without-requires : tie.Need-first-without-requires
-first-without-requires c κs = search needs
-
 second-of-requires : tie.Need-second-of-requires
-second-of-requires c κs = let p = c .before .before .before .before .before .before .pre in
+second-of-requires c κs = let p = c .before .before .before .before .before .before .before .pre in
+    let kept-is = c .before .before .before .before .inserted .ensures in
     let first-is =
-    first-after _ _ _ _ _ _ _ (p .rows .few-facilities) (p .moved) _ _ _ _ (p .near-is) (p .arrived-is)
-    (c .before .before .before .inserted .ensures) (c .first-without .ensures)
+    ⊎-elim (λ w. first-gone _ _ _ _ _ _ _ (p .rows .few-facilities) (p .moved) _ _ _ _ (p .near-is) (p .arrived-is) kept-is (w .0 .taken) (w .1))
+    (λ w. first-stays _ _ _ _ _ _ _ (p .rows .few-facilities) (p .moved) _ _ _ _ (p .near-is) (p .arrived-is) kept-is (w .0 .left) (w .1))
+    (c .if2 .came)
     in
     (p .rows, p .client, p .next-small, p .list-is, p .count-is, first-is)
 
 returns : tie.Need-returns
-returns c = let p = c .before .before .before .before .before .before .before .pre in
+returns c = let p = c .before .before .before .before .before .before .before .before .pre in
+    let kept-is = c .before .before .before .before .before .inserted .ensures in
     let first-is =
-    first-after _ _ _ _ _ _ _ (p .rows .few-facilities) (p .moved) _ _ _ _ (p .near-is) (p .arrived-is)
-    (c .before .before .before .before .inserted .ensures) (c .before .first-without .ensures)
+    ⊎-elim (λ w. first-gone _ _ _ _ _ _ _ (p .rows .few-facilities) (p .moved) _ _ _ _ (p .near-is) (p .arrived-is) kept-is (w .0 .taken) (w .1))
+    (λ w. first-stays _ _ _ _ _ _ _ (p .rows .few-facilities) (p .moved) _ _ _ _ (p .near-is) (p .arrived-is) kept-is (w .0 .left) (w .1))
+    (c .before .if2 .came)
     in
     rw (first-is, c .second-of .ensures)
 
@@ -40,4 +42,4 @@ returns-2 c = let s = c .before .before .before .before .before in
 
 pub near-after-spec : {M : Type 1} → statement M
 near-after-spec =
-    tie.close (tie.spec inserted-requires goes-to-requires first-without-requires second-of-requires returns returns-2)
+    tie.close (tie.spec inserted-requires goes-to-requires second-of-requires returns returns-2)

@@ -1,12 +1,12 @@
 -- `near::second_of` meets its contract. The invariant: the least is the nearest of the facilities that are passed in the list, other
 -- than the first.
-use borrow.Author.Needs.{needs}
-use Prim.Native.Nat.{_≤_, _-_}
+use Prim.Native.Nat.{_≤_, _-_, min}
 use native.Mathlib.Omega.{arith}
 use mathlib.Core.Path.{_≡_, _∙_}
+use mathlib.Core.Logic.{⊎-elim}
 use Rattle.model.proofs.SetLaws.{member-below}
 use Rattle.sets.proofs.MemberLaws.{passed}
-use Rattle.engine.proofs.NearLaws.{place, place-room, leastBelow, least-none, least-more, least-all}
+use Rattle.engine.proofs.NearLaws.{place, place-room, leastBelow, least-none, least-more, least-all, other-first, other-else}
 use Rattle.engine.proofs.near.second_of.Statement.{statement}
 use Rattle.engine.proofs.near.second_of.Tie as tie
 
@@ -33,12 +33,6 @@ packed-at-requires c κs = let s = c .before .before .before .before .before in
     let r = place _ _ _ (s .pre .3) (s .pre .4) _ (c .before .loop-test .taken) in
     (s .pre .0, s .pre .1, member-below _ _ _ (s .pre .2) (r .is-in))
 
-other-than-requires : tie.Need-other-than-requires Inv-loop μ-loop
-other-than-requires c κs = search needs
-
-lesser-requires : tie.Need-lesser-requires Inv-loop μ-loop
-lesser-requires c κs = search needs
-
 add-t : tie.Need-add-t Inv-loop μ-loop
 add-t c = omega arith
 
@@ -49,11 +43,16 @@ loop-again : tie.Need-loop-again Inv-loop μ-loop
 loop-again c = let s = c .before .before .before .before .before .before .before .before in
     let a = s .args in
     let l = c .before .before .before .before .before .loop in
-    let r = place _ _ _ (s .pre .3) (s .pre .4) _ (c .before .before .before .before .loop-test .taken) in (
+    let x = c .before .before .packed-at in
+    let other = c .before .if1 .other in
+    let r = place _ _ _ (s .pre .3) (s .pre .4) _ (c .before .before .before .before .loop-test .taken) in
+    let other-is =
+    ⊎-elim (λ w. other-first (a .first) (x .result) other (w .0 .taken) (w .1)) (λ w. other-else (a .first) (x .result) other (w .0 .left) (w .1))
+    (c .before .if1 .came)
+    in
+    let lesser : c .if2 .least ≡ min other (l .least) = ⊎-elim (λ w. omega (arith, w .0 .taken, w .1)) (λ w. omega (arith, w .0 .left, w .1)) (c .if2 .came) in (
       omega arith,
-      c .lesser .ensures
-          ∙ least-more (a .m) (a .service .now) (a .set) (a .j) (a .first) _ _ _ _ (l .least) r (l .inv .1)
-          (c .before .before .packed-at .ensures) (c .before .other-than .ensures),
+      lesser ∙ least-more (a .m) (a .service .now) (a .set) (a .j) (a .first) _ _ _ _ (l .least) r (l .inv .1) (x .ensures) other-is,
     )
 
 returns : tie.Need-returns Inv-loop μ-loop
@@ -73,8 +72,6 @@ second-of-spec =
     shared-slice-read-packed-at
     cast-packed-at
     packed-at-requires
-    other-than-requires
-    lesser-requires
     add-t
     loop-less
     loop-again

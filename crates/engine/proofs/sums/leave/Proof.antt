@@ -1,8 +1,8 @@
 -- `sums::leave` meets its contract: the laws of the sums that are kept, with what `shift_out` answers.
 use native.Mathlib.Omega.{arith}
 use lib.ListN.{length-set}
-use Rattle.engine.proofs.KeptLaws.{kept-row-small, leave-ready}
-use Rattle.engine.proofs.KeptChangeLaws.{leave-loss-fits, leave-loss-enough, leave-put, leave-kept}
+use Rattle.engine.proofs.ClientSumLaws.{kept-row-small, row-room, leave-shifted}
+use Rattle.engine.proofs.SumChangeLaws.{leave-loss-fits, leave-loss-enough, leave-put, leave-kept}
 use borrow.Author.Needs.{needs}
 use Rattle.engine.proofs.sums.leave.Statement.{statement}
 use Rattle.engine.proofs.sums.leave.Tie as tie
@@ -36,17 +36,35 @@ cast-second : tie.Need-cast-second
 cast-second c = let s = c .before .before .before .before .before in
     omega (arith, s .pre .0 .ordered (s .args .j) (s .pre .1), s .pre .0 .within (s .args .j) (s .pre .1))
 
-mul-shift-out : tie.Need-mul-shift-out
-mul-shift-out c = let s = c .before .before .before .before .before in omega (arith, kept-row-small (s .pre .0) (s .args .j) (s .pre .1))
+mul-row : tie.Need-mul-row
+mul-row c = let s = c .before .before .before .before .before in omega (arith, kept-row-small (s .pre .0) (s .args .j) (s .pre .1))
 
-mul-shift-out-2 : tie.Need-mul-shift-out-2
-mul-shift-out-2 c = search needs
+mul-row-2 : tie.Need-mul-row-2
+mul-row-2 c = let s = c .before .before .before .before .before in omega (arith, kept-row-small (s .pre .0) (s .args .j) (s .pre .1))
+
+add-row : tie.Need-add-row
+add-row c = let s = c .before .before .before .before .before in omega (arith, kept-row-small (s .pre .0) (s .args .j) (s .pre .1))
+
+mul-row-3 : tie.Need-mul-row-3
+mul-row-3 c = let s = c .before .before .before .before .before in omega (arith, kept-row-small (s .pre .0) (s .args .j) (s .pre .1))
+
+sub-row : tie.Need-sub-row
+sub-row c = search needs
+
+part-row-start : tie.Need-part-row-start
+part-row-start c = search needs
+
+part-row-end : tie.Need-part-row-end
+part-row-end c = let s = c .before .before .before .before .before in omega (arith, row-room (s .pre .0) (s .args .j) (s .pre .1))
+
+mul-shift-out : tie.Need-mul-shift-out
+mul-shift-out c = search needs
 
 add-shift-out : tie.Need-add-shift-out
 add-shift-out c = search needs
 
 shift-out-requires : tie.Need-shift-out-requires
-shift-out-requires c κs = let s = c .before .before .before .before .before .before in leave-ready (s .pre .0) (s .args .j) (s .pre .1)
+shift-out-requires c κs = search needs
 
 mul-kept : tie.Need-mul-kept
 mul-kept c = search needs
@@ -61,24 +79,24 @@ mul-kept-2 : tie.Need-mul-kept-2
 mul-kept-2 c = search needs
 
 slice-read-kept : tie.Need-slice-read-kept
-slice-read-kept c = let s = c .before .before .before .before .before .before .before .before .before .before in
+slice-read-kept c = let s = c .before .before .before .before .before .before .before .before .before .before .before in
     simp length-set (omega (arith, s .pre .0 .room))
 
 cast-kept : tie.Need-cast-kept
-cast-kept c = let s = c .before .before .before .before .before .before .before .before .before .before in
+cast-kept c = let s = c .before .before .before .before .before .before .before .before .before .before .before in
     omega (arith, s .pre .0 .ordered (s .args .j) (s .pre .1), s .pre .0 .within (s .args .j) (s .pre .1))
 
 add-kept-2 : tie.Need-add-kept-2
-add-kept-2 c = let s = c .before .before .before .before .before .before .before .before .before .before in
-    record { fits = leave-loss-fits (s .pre .0) (s .args .j) (s .pre .1) _ (c .before .before .before .shift-out .ensures) (omega arith) }
+add-kept-2 c = let s = c .before .before .before .before .before .before .before .before .before .before .before in
+    record { fits = leave-loss-fits (s .pre .0) (s .args .j) (s .pre .1) _ (leave-shifted (s .pre .0) (s .args .j) (s .pre .1) _ (c .before .before .before .shift-out .ensures)) (omega arith) }
 
 cast-kept-2 : tie.Need-cast-kept-2
-cast-kept-2 c = let s = c .before .before .before .before .before .before .before .before .before .before in
+cast-kept-2 c = let s = c .before .before .before .before .before .before .before .before .before .before .before in
     omega (arith, s .pre .0 .ordered (s .args .j) (s .pre .1), s .pre .0 .within (s .args .j) (s .pre .1))
 
 sub-kept : tie.Need-sub-kept
-sub-kept c = let s = c .before .before .before .before .before .before .before .before .before .before in
-    leave-loss-enough (s .pre .0) (s .args .j) (s .pre .1) _ (c .before .before .before .shift-out .ensures) (omega arith)
+sub-kept c = let s = c .before .before .before .before .before .before .before .before .before .before .before in
+    leave-loss-enough (s .pre .0) (s .args .j) (s .pre .1) _ (leave-shifted (s .pre .0) (s .args .j) (s .pre .1) _ (c .before .before .before .shift-out .ensures)) (omega arith)
 
 add-kept-3 : tie.Need-add-kept-3
 add-kept-3 c = search needs
@@ -87,7 +105,7 @@ mul-kept-3 : tie.Need-mul-kept-3
 mul-kept-3 c = search needs
 
 slice-write-kept-2 : tie.Need-slice-write-kept-2
-slice-write-kept-2 c = let s = c .before .before .before .before .before .before .before .before .before .before in
+slice-write-kept-2 c = let s = c .before .before .before .before .before .before .before .before .before .before .before in
     simp length-set (omega (arith, s .pre .0 .room))
 
 add-kept-4 : tie.Need-add-kept-4
@@ -97,15 +115,15 @@ mul-kept-4 : tie.Need-mul-kept-4
 mul-kept-4 c = search needs
 
 slice-write-kept-3 : tie.Need-slice-write-kept-3
-slice-write-kept-3 c = let s = c .before .before .before .before .before .before .before .before .before .before in
+slice-write-kept-3 c = let s = c .before .before .before .before .before .before .before .before .before .before .before in
     simp length-set (omega (arith, s .pre .0 .room, s .pre .0 .rows .few-clients))
 
 same-length : tie.Need-same-length
 same-length c = search needs
 
 returns : tie.Need-returns
-returns c = let s = c .before .before .before .before .before .before .before .before .before .before in
-    let shifted = c .before .before .before .shift-out .ensures in (
+returns c = let s = c .before .before .before .before .before .before .before .before .before .before .before in
+    let shifted = leave-shifted (s .pre .0) (s .args .j) (s .pre .1) _ (c .before .before .before .shift-out .ensures) in (
       leave-kept (s .pre .0) (s .args .j) (s .pre .1) _ shifted (omega arith),
       leave-put (s .pre .0) (s .args .j) (s .pre .1) _ shifted (omega arith),
     )
@@ -123,8 +141,14 @@ leave-spec =
     mul-second
     slice-read-second
     cast-second
+    mul-row
+    mul-row-2
+    add-row
+    mul-row-3
+    sub-row
+    part-row-start
+    part-row-end
     mul-shift-out
-    mul-shift-out-2
     add-shift-out
     shift-out-requires
     mul-kept

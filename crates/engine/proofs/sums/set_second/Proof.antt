@@ -1,7 +1,7 @@
 -- `sums::set_second` meets its contract: the laws of the sums that are kept, with what `shift` answers.
 use lib.ListN.{length-set}
-use Rattle.engine.proofs.KeptLaws.{kept-row-small, second-ready}
-use Rattle.engine.proofs.KeptChangeLaws.{second-loss-fits, second-loss-enough, second-put, second-kept}
+use Rattle.engine.proofs.ClientSumLaws.{kept-row-small, row-room, second-shifted}
+use Rattle.engine.proofs.SumChangeLaws.{second-loss-fits, second-loss-enough, second-put, second-kept}
 use native.Mathlib.Omega.{arith}
 use borrow.Author.Needs.{needs}
 use Rattle.engine.proofs.sums.set_second.Statement.{statement}
@@ -29,18 +29,35 @@ cast-last c = let s = c .before .before .before .before in
 cast-next : tie.Need-cast-next
 cast-next c = search needs
 
-mul-shift : tie.Need-mul-shift
-mul-shift c = let s = c .before .before .before .before in omega (arith, kept-row-small (s .pre .0) (s .args .j) (s .pre .1))
+mul-row : tie.Need-mul-row
+mul-row c = let s = c .before .before .before .before in omega (arith, kept-row-small (s .pre .0) (s .args .j) (s .pre .1))
 
-mul-shift-2 : tie.Need-mul-shift-2
-mul-shift-2 c = search needs
+mul-row-2 : tie.Need-mul-row-2
+mul-row-2 c = let s = c .before .before .before .before in omega (arith, kept-row-small (s .pre .0) (s .args .j) (s .pre .1))
+
+add-row : tie.Need-add-row
+add-row c = let s = c .before .before .before .before in omega (arith, kept-row-small (s .pre .0) (s .args .j) (s .pre .1))
+
+mul-row-3 : tie.Need-mul-row-3
+mul-row-3 c = let s = c .before .before .before .before in omega (arith, kept-row-small (s .pre .0) (s .args .j) (s .pre .1))
+
+sub-row : tie.Need-sub-row
+sub-row c = search needs
+
+part-row-start : tie.Need-part-row-start
+part-row-start c = search needs
+
+part-row-end : tie.Need-part-row-end
+part-row-end c = let s = c .before .before .before .before in omega (arith, row-room (s .pre .0) (s .args .j) (s .pre .1))
+
+mul-shift : tie.Need-mul-shift
+mul-shift c = search needs
 
 add-shift : tie.Need-add-shift
 add-shift c = search needs
 
 shift-requires : tie.Need-shift-requires
-shift-requires c κs = let s = c .before .before .before .before .before in
-    second-ready (s .pre .0) (s .args .j) (s .pre .1) (s .args .second) (s .pre .2) (s .pre .3)
+shift-requires c κs = search needs
 
 add-kept : tie.Need-add-kept
 add-kept c = search needs
@@ -55,17 +72,18 @@ cast-kept : tie.Need-cast-kept
 cast-kept c = search needs
 
 add-kept-2 : tie.Need-add-kept-2
-add-kept-2 c = let s = c .before .before .before .before .before .before .before .before .before in
-    let shifted = c .before .before .before .shift .ensures in
+add-kept-2 c = let s = c .before .before .before .before .before .before .before .before .before .before in
+    let shifted = second-shifted (s .pre .0) (s .args .j) (s .pre .1) (s .args .second) (s .pre .2) (s .pre .3) _ (c .before .before .before .shift .ensures) in
     record { fits = second-loss-fits (s .pre .0) (s .args .j) (s .pre .1) (s .args .second) (s .pre .2) (s .pre .3) _ shifted (omega arith) }
 
 cast-kept-2 : tie.Need-cast-kept-2
-cast-kept-2 c = let s = c .before .before .before .before .before .before .before .before .before in
+cast-kept-2 c = let s = c .before .before .before .before .before .before .before .before .before .before in
     omega (arith, s .pre .0 .within (s .args .j) (s .pre .1))
 
 sub-kept : tie.Need-sub-kept
-sub-kept c = let s = c .before .before .before .before .before .before .before .before .before in
-    second-loss-enough (s .pre .0) (s .args .j) (s .pre .1) (s .args .second) (s .pre .2) (s .pre .3) _ (c .before .before .before .shift .ensures) (omega arith)
+sub-kept c = let s = c .before .before .before .before .before .before .before .before .before .before in
+    second-loss-enough (s .pre .0) (s .args .j) (s .pre .1) (s .args .second) (s .pre .2) (s .pre .3) _
+    (second-shifted (s .pre .0) (s .args .j) (s .pre .1) (s .args .second) (s .pre .2) (s .pre .3) _ (c .before .before .before .shift .ensures)) (omega arith)
 
 add-kept-3 : tie.Need-add-kept-3
 add-kept-3 c = search needs
@@ -83,16 +101,16 @@ mul-kept-3 : tie.Need-mul-kept-3
 mul-kept-3 c = search needs
 
 slice-write-kept-2 : tie.Need-slice-write-kept-2
-slice-write-kept-2 c = let s = c .before .before .before .before .before .before .before .before .before in
+slice-write-kept-2 c = let s = c .before .before .before .before .before .before .before .before .before .before in
     simp length-set (omega (arith, s .pre .0 .room, s .pre .0 .rows .few-clients))
 
 same-length : tie.Need-same-length
 same-length c = search needs
 
 returns : tie.Need-returns
-returns c = let s = c .before .before .before .before .before .before .before .before .before in
+returns c = let s = c .before .before .before .before .before .before .before .before .before .before in
     let a = s .args in
-    let shifted = c .before .before .before .shift .ensures in (
+    let shifted = second-shifted (s .pre .0) (s .args .j) (s .pre .1) (s .args .second) (s .pre .2) (s .pre .3) _ (c .before .before .before .shift .ensures) in (
       second-kept (s .pre .0) (a .j) (s .pre .1) (a .second) (s .pre .2) (s .pre .3) _ shifted (omega arith),
       second-put (s .pre .0) (a .j) (s .pre .1) (a .second) (s .pre .2) (s .pre .3) _ shifted (omega arith),
     )
@@ -108,8 +126,14 @@ set-second-spec =
     slice-read-last
     cast-last
     cast-next
+    mul-row
+    mul-row-2
+    add-row
+    mul-row-3
+    sub-row
+    part-row-start
+    part-row-end
     mul-shift
-    mul-shift-2
     add-shift
     shift-requires
     add-kept

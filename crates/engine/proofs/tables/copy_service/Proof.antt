@@ -6,7 +6,7 @@ use native.Mathlib.Omega.{arith}
 use lib.ListN.{length, getD, length-set}
 use Rattle.engine.specs.Tables.{Behind, Copied}
 use Rattle.model.proofs.PlaceLaws.{front-more}
-use Rattle.engine.proofs.TableLaws.{behind-more}
+use Rattle.engine.proofs.LentTableLaws.{behind-more}
 use Rattle.engine.proofs.tables.copy_service.Statement.{statement}
 use Rattle.engine.proofs.tables.copy_service.Tie as tie
 

@@ -1,12 +1,12 @@
 -- `tables::high_count` meets its contract. The invariant: the total counts the entries passed that are too high.
 use Prim.Native.Nat.{_≤_, _-_}
 use native.Mathlib.Omega.{arith}
-use mathlib.Core.Path.{_≡_}
-use borrow.Author.Needs.{needs}
+use mathlib.Core.Path.{_≡_, _∙_}
+use mathlib.Core.Logic.{⊎-elim}
 use Rattle.model.specs.Sets.{count}
 use Rattle.model.proofs.SumLaws.{sum-none}
 use Rattle.engine.specs.Tables.{tooHighAt}
-use Rattle.engine.proofs.TableLaws.{counts-on}
+use Rattle.engine.proofs.LentTableLaws.{counts-high, counts-low}
 use Rattle.engine.proofs.tables.high_count.Statement.{statement}
 use Rattle.engine.proofs.tables.high_count.Tie as tie
 
@@ -19,20 +19,16 @@ abbrev μ-loop : tie.MeasureT-loop
 loop-holds : tie.Need-loop-holds Inv-loop μ-loop
 loop-holds c = (omega arith, sum-none _)
 
-mul-one-if-high : tie.Need-mul-one-if-high Inv-loop μ-loop
-mul-one-if-high c = omega arith
+mul-if1 : tie.Need-mul-if1 Inv-loop μ-loop
+mul-if1 c = omega arith
 
-shared-slice-read-one-if-high : tie.Need-shared-slice-read-one-if-high Inv-loop μ-loop
-shared-slice-read-one-if-high c = omega arith
-
-one-if-high-requires : tie.Need-one-if-high-requires Inv-loop μ-loop
-one-if-high-requires c κs = search needs
+shared-slice-read-if1 : tie.Need-shared-slice-read-if1 Inv-loop μ-loop
+shared-slice-read-if1 c = omega arith
 
 add-total : tie.Need-add-total Inv-loop μ-loop
-unfolding tooHighAt
-add-total c = let s = c .before .before .before .before .before in
+add-total c = let s = c .before .before .before .before in
     let l = c .before .before .before .loop in
-    omega (arith, s .pre .1, counts-on (tooHighAt (s .args .service .now)) _ (l .k) _ (l .inv .1) (c .one-if-high .ensures) .1)
+    omega (arith, s .pre .1, counts-high (s .args .service .now) (l .k) _ (l .inv .1) (c .if1 .taken) .1)
 
 add-k : tie.Need-add-k Inv-loop μ-loop
 add-k c = omega arith
@@ -41,13 +37,16 @@ loop-less : tie.Need-loop-less Inv-loop μ-loop
 loop-less c = omega arith
 
 loop-again : tie.Need-loop-again Inv-loop μ-loop
-unfolding tooHighAt
-loop-again c = let l = c .before .before .before .loop in
-    (omega arith, counts-on (tooHighAt (c .before .before .before .before .before .args .service .now)) _ (l .k) _ (l .inv .1) (c .one-if-high .ensures) .0)
+loop-again c = let service = c .before .before .before .before .args .service .now in
+    let l = c .before .before .before .loop in (
+      omega arith,
+      ⊎-elim (λ w. w .1 ∙ counts-high service (l .k) _ (l .inv .1) (w .0 .taken) .0)
+          (λ w. w .1 ∙ counts-low service (l .k) _ (l .inv .1) (w .0 .left)) (c .if1 .came),
+    )
 
 returns : tie.Need-returns Inv-loop μ-loop
 returns c = let l = c .before .loop in
-    let e : l .k ≡ c .before .before .before .args .places = omega arith in
+    let e : l .k ≡ c .before .before .args .places = omega arith in
     rw e at (l .inv .1)
 
 pub high-count-spec : {M : Type 1} → statement M
@@ -57,9 +56,8 @@ high-count-spec =
     Inv-loop
     μ-loop
     loop-holds
-    mul-one-if-high
-    shared-slice-read-one-if-high
-    one-if-high-requires
+    mul-if1
+    shared-slice-read-if1
     add-total
     add-k
     loop-less

@@ -4,7 +4,7 @@ use native.Mathlib.Omega.{arith}
 use borrow.Author.Needs.{needs}
 use Rattle.model.proofs.Bools.{said-no, said-yes}
 use Rattle.model.proofs.PlaceLaws.{few-places}
-use Rattle.engine.proofs.TableLaws.{no-facility, many-facilities, many-clients, opening-short, service-short, opening-high, entries-tell}
+use Rattle.engine.proofs.LentTableLaws.{no-facility, many-facilities, many-clients, opening-short, service-short, opening-high, entries-tell}
 use Rattle.engine.proofs.tables.tables_good.Statement.{statement}
 use Rattle.engine.proofs.tables.tables_good.Tie as tie
 
