@@ -15,7 +15,7 @@ use Rattle.model.specs.Loops.{on}
 use Rattle.model.proofs.Bools.{cases}
 use Rattle.model.proofs.SumLaws.{sum-bound, sum-term, sum-cong, sum-zero, on-zero, on-true, on-le}
 use Rattle.model.proofs.PlaceLaws.{row-within, few-places}
-use Rattle.rows.specs.Sums.{halfEnd, shifted, shiftedIn, shiftedOut}
+use Rattle.rows.specs.Shifts.{halfEnd, shifted, shiftedIn, shiftedOut}
 use Rattle.rows.proofs.ExactLaws.{Shiftable, Shifted, ShiftedBoth, exactly-shifted, exactly-in, exactly-out}
 use Rattle.engine.specs.Bounds.{mostEntry, noFacility, mostServed, secondsFrom, addedFrom, lossFrom, moreFrom, keptLength}
 use Rattle.engine.specs.Rows.{entry, Rows, ColumnSums}

@@ -12,7 +12,7 @@ use Rattle.engine.specs.Tables.{tabled, tableCost, Copied, Behind, Front
 use Rattle.engine.specs.Rows.{ColumnSums, Aside}
 use Rattle.engine.specs.Sums.{Prepared}
 use Rattle.engine.specs.Moves.{neighboursBy}
-use Rattle.engine.specs.Search.{startSet, found}
+use Rattle.engine.specs.SearchOnTables.{startSet, found}
 use Rattle.engine.specs.declared.Start.{Start}
 use Rattle.engine.specs.declared.Start.the-variants.{Cheapest, Set}
 use Rattle.engine.specs.declared.Found.{Found}

@@ -22,7 +22,7 @@ use Rattle.sets.specs.Within.{with32}
 use Rattle.sets.proofs.WithinLaws.{with32-below}
 use Rattle.engine.specs.Tables.{tabled, tableCost}
 use Rattle.engine.specs.Moves.{priced, neighboursBy}
-use Rattle.engine.specs.Search.{found}
+use Rattle.engine.specs.SearchOnTables.{found}
 use Rattle.engine.specs.declared.moves.Priced.{Priced}
 use Rattle.engine.specs.declared.Found.the-variants.{Stopped, Settled}
 use Rattle.engine.specs.declared.Neighbourhood.{Neighbourhood}

@@ -19,7 +19,7 @@ use Rattle.model.proofs.FewStepsLaws.{never-stopped}
 use Rattle.engine.specs.Bounds.{noLimit}
 use Rattle.engine.specs.Tables.{tabled, tableCost, goodTables}
 use Rattle.engine.specs.Moves.{neighboursBy}
-use Rattle.engine.specs.Search.{goodStart, startSet, found, searching}
+use Rattle.engine.specs.SearchOnTables.{goodStart, startSet, found, searching}
 use Rattle.engine.specs.declared.Neighbourhood.{Neighbourhood}
 use Rattle.engine.specs.declared.Neighbourhood.the-variants.{AddDropSwap, Swap}
 use Rattle.engine.specs.declared.Start.{Start}

@@ -1,6 +1,6 @@
 -- The numbers of the engine, each named here and nowhere written again: bounds of the tables, and where the stretches of the kept table begin.
 use Prim.Native.Nat.{ℕ, _+_, _-_, _*_, _^_}
-use Rattle.rows.specs.Sums.{columns}
+use Rattle.rows.specs.Shifts.{columns}
 
 -- ---- what the engine takes
 

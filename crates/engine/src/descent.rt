@@ -13,7 +13,7 @@ ghost use Rattle.engine.specs.Tables.{tabled, tableCost, Openings};
 ghost use Rattle.engine.specs.Rows.{Rows, ColumnSums};
 ghost use Rattle.engine.specs.Sums.{Kept, KeptOf, NearUpTo};
 ghost use Rattle.engine.specs.Moves.{priced, neighboursBy};
-ghost use Rattle.engine.specs.Search.{startSet, found};
+ghost use Rattle.engine.specs.SearchOnTables.{startSet, found};
 use crate::Found;
 use crate::Neighbourhood;
 use crate::Start;

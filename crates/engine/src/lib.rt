@@ -2,7 +2,7 @@
 //
 // `search` goes from a start by the moves asked for, adds, drops and swaps or swaps alone, while they lower the total cost of the set by the
 // tables, and with at most so many of them. It prices every move by sums over the clients that it keeps from move to move. It looks through
-// the tables and the start itself: it takes any, and turns down what specs/Search.antt says.
+// the tables and the start itself: it takes any, and turns down what specs/SearchOnTables.antt says.
 mod bounds;
 mod clients;
 mod columns;
@@ -20,7 +20,7 @@ ghost use Rattle.model.specs.Limit.{searchWithin};
 ghost use Rattle.engine.specs.Tables.{tabled, tableCost, goodTables, Blank};
 ghost use Rattle.engine.specs.Sums.{Prepared};
 ghost use Rattle.engine.specs.Moves.{neighboursBy};
-ghost use Rattle.engine.specs.Search.{goodStart, startSet, found, searching};
+ghost use Rattle.engine.specs.SearchOnTables.{goodStart, startSet, found, searching};
 use bounds::ADDED;
 use bounds::KEPT;
 use bounds::MOST_FACILITIES;

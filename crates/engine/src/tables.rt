@@ -6,7 +6,7 @@ ghost use Rattle.model.specs.Loops.{allBelow};
 ghost use Rattle.model.specs.Sets.{count};
 ghost use Rattle.engine.specs.Bounds.{mostFacilities};
 ghost use Rattle.engine.specs.Tables.{Copied, Behind, Front, openingWithin, tooHighAt, goodTables};
-ghost use Rattle.engine.specs.Search.{goodStart};
+ghost use Rattle.engine.specs.SearchOnTables.{goodStart};
 use crate::Start;
 use crate::bounds::MOST_CLIENTS;
 use crate::bounds::MOST_ENTRY;

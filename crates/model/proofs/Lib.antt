@@ -1,5 +1,4 @@
 pub mod Bools
-pub mod SignedLaws
 pub mod LoopLaws
 pub mod PlaceLaws
 pub mod PassingLaws

@@ -7,7 +7,7 @@ use mathlib.Core.List.{List}
 use borrow.Author.Tests.{le-leb, lt-leb, leb-true}
 use lib.Dec.{leb}
 use lib.ListN.{length}
-use Rattle.rows.specs.Sums.{columns, fits, aboveAt, betweenAt, raised, lowered, shifted, twoFit, shiftedIn, shiftedOut}
+use Rattle.rows.specs.Shifts.{columns, fits, aboveAt, betweenAt, raised, lowered, shifted, twoFit, shiftedIn, shiftedOut}
 
 -- ---- room
 

@@ -9,7 +9,7 @@ use lib.Seq.{getD-set-same, getD-set-other}
 use Rattle.model.specs.Passing.{through}
 use Rattle.model.proofs.PassingLaws.{through-more}
 use Rattle.model.proofs.LoopLaws.{up-to}
-use Rattle.rows.specs.Sums.{changeAt, changed, Filled}
+use Rattle.rows.specs.Shifts.{changeAt, changed, Filled}
 
 -- ---- a turn
 

@@ -9,7 +9,7 @@ use borrow.Author.Tests.{lt-ltb, le-ltb, leb-true, leb-false}
 use lib.Dec.{leb}
 use lib.ListN.{length, getD}
 use Rattle.model.proofs.Bools.{cases}
-use Rattle.rows.specs.Sums.{columns, costEnd, halfEnd, wordEnd, less, above, aboveAt, betweenAt, rise, fall, raised, lowered, shifted, shiftedIn, shiftedOut}
+use Rattle.rows.specs.Shifts.{columns, costEnd, halfEnd, wordEnd, less, above, aboveAt, betweenAt, rise, fall, raised, lowered, shifted, shiftedIn, shiftedOut}
 use Rattle.rows.proofs.ChangeLaws.{changed-length, changed-below, changed-above, changed-inside}
 use Rattle.rows.proofs.CallLaws.{fits-when, shifts-up, shifts-down, two-fit, in-shifted, out-shifted}
 

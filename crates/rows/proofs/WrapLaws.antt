@@ -8,7 +8,7 @@ use borrow.Author.Tests.{lt-ltb, le-ltb}
 use lib.Dec.{ltb}
 use lib.ListN.{getD}
 use Rattle.model.proofs.Bools.{cases}
-use Rattle.rows.specs.Sums.{costEnd, halfEnd, wordEnd, less, above, aboveAt, betweenAt, rise, fall}
+use Rattle.rows.specs.Shifts.{costEnd, halfEnd, wordEnd, less, above, aboveAt, betweenAt, rise, fall}
 
 -- ---- costs
 

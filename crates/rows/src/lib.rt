@@ -5,7 +5,7 @@
 ghost use mathlib.Core.Path.{_≡_};
 ghost use Prim.Native.Nat.{_+_, _≤_};
 ghost use lib.ListN.{length};
-ghost use Rattle.rows.specs.Sums.{columns, fits, above, Filled, aboveAt, betweenAt, raised, lowered, shifted, shiftedIn, shiftedOut};
+ghost use Rattle.rows.specs.Shifts.{columns, fits, above, Filled, aboveAt, betweenAt, raised, lowered, shifted, shiftedIn, shiftedOut};
 
 pub const COLUMNS: usize = 32;
 

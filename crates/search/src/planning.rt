@@ -16,7 +16,7 @@ ghost use Rattle.price.specs.Plan.{question9};
 ghost use Rattle.price.specs.Pricing.{plannedAnswer, answer, areaAfter};
 ghost use Rattle.engine.specs.Tables.{tabled, tableCost, goodTables};
 ghost use Rattle.engine.specs.Moves.{neighboursBy};
-ghost use Rattle.engine.specs.Search.{startSet};
+ghost use Rattle.engine.specs.SearchOnTables.{startSet};
 ghost use Rattle.search.specs.SheetTables.{Free, OpeningBy};
 ghost use Rattle.search.specs.SearchEnds.{settledAt, planOf};
 ghost use Rattle.search.specs.PlanKinds.{startBy, endBy, planningBy};

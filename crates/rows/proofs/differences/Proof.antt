@@ -3,7 +3,7 @@ use mathlib.Core.Path.{_≡_, refl}
 use Prim.Native.Nat.{_≤_, _-_}
 use native.Mathlib.Omega.{arith}
 use lib.ListN.{length, length-set}
-use Rattle.rows.specs.Sums.{betweenAt, Filled}
+use Rattle.rows.specs.Shifts.{betweenAt, Filled}
 use Rattle.rows.proofs.ChangeLaws.{filled-none, filled-more}
 use Rattle.rows.proofs.WrapLaws.{between-taken}
 use borrow.Author.Needs.{needs}

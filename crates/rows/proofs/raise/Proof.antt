@@ -5,7 +5,7 @@ use native.Mathlib.Omega.{arith}
 use lib.ListN.{length, length-set}
 use Rattle.model.specs.Passing.{through}
 use Rattle.model.proofs.PassingLaws.{through-none}
-use Rattle.rows.specs.Sums.{betweenAt, changeAt, changed, rise}
+use Rattle.rows.specs.Shifts.{betweenAt, changeAt, changed, rise}
 use Rattle.rows.proofs.ChangeLaws.{change-more}
 use Rattle.rows.proofs.WrapLaws.{between-at-small, wrapped-rise}
 use borrow.Author.Needs.{needs}

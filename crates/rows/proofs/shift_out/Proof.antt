@@ -6,7 +6,7 @@ use lib.ListN.{length, length-set}
 use Rattle.model.specs.Passing.{through}
 use Rattle.model.proofs.Bools.{said-no, said-yes}
 use Rattle.model.proofs.PassingLaws.{through-none}
-use Rattle.rows.specs.Sums.{aboveAt, betweenAt, changeAt, changed, rise, fall}
+use Rattle.rows.specs.Shifts.{aboveAt, betweenAt, changeAt, changed, rise, fall}
 use Rattle.rows.proofs.ChangeLaws.{change-more}
 use Rattle.rows.proofs.WrapLaws.{above-at-small, between-at-small, wrapped-rise, wrapped-fall}
 use Rattle.rows.proofs.CallLaws.{fits-true, two-lack-row, two-overlap, two-lack-room, two-fit, out-refused, out-shifted}

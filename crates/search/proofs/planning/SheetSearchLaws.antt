@@ -19,7 +19,7 @@ use Rattle.questions.specs.Sheet.{instanceBy}
 use Rattle.engine.specs.Bounds.{noLimit}
 use Rattle.engine.specs.Tables.{tabled, tableCost, goodTables}
 use Rattle.engine.specs.Moves.{neighboursBy}
-use Rattle.engine.specs.Search.{goodStart, startSet, searching}
+use Rattle.engine.specs.SearchOnTables.{goodStart, startSet, searching}
 use Rattle.engine.specs.declared.Start.{Start}
 use Rattle.engine.specs.declared.Found.{Found}
 use Rattle.engine.specs.declared.Found.the-variants as Found

@@ -4,7 +4,7 @@ use Prim.Native.Nat.{_≤_, _-_}
 use native.Mathlib.Omega.{arith}
 use lib.ListN.{length, length-set}
 use Rattle.engine.specs.Rows.{RowAdded}
-use Rattle.engine.proofs.ColumnLaws.{row-added-none, sum-small, row-added-more}
+use Rattle.engine.proofs.columns.ColumnLaws.{row-added-none, sum-small, row-added-more}
 use Rattle.engine.proofs.columns.add_row.Statement.{statement}
 use Rattle.engine.proofs.columns.add_row.Tie as tie
 

@@ -4,7 +4,7 @@ use Prim.Native.Nat.{_≤_, _-_}
 use native.Mathlib.Omega.{arith}
 use lib.ListN.{length}
 use Rattle.engine.specs.Rows.{ColumnSums, Aside}
-use Rattle.engine.proofs.ColumnLaws.{columns-none, columns-ready, columns-more, aside-none, aside-more}
+use Rattle.engine.proofs.columns.ColumnLaws.{columns-none, columns-ready, columns-more, aside-none, aside-more}
 use Rattle.engine.proofs.columns.add_rows.Statement.{statement}
 use Rattle.engine.proofs.columns.add_rows.Tie as tie
 

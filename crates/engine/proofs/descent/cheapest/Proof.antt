@@ -5,7 +5,7 @@ use mathlib.Core.Path.{_≡_, refl}
 use borrow.Author.Needs.{needs}
 use Rattle.engine.specs.Tables.{tableCost}
 use Rattle.engine.proofs.DescentLaws.{Cheapest, cheapest-all}
-use Rattle.engine.proofs.SingleFacilityLaws.{alone-fits, alone-first, alone-more}
+use Rattle.engine.proofs.descent.SingleFacilityLaws.{alone-fits, alone-first, alone-more}
 use Rattle.engine.proofs.descent.cheapest.Statement.{statement}
 use Rattle.engine.proofs.descent.cheapest.Tie as tie
 

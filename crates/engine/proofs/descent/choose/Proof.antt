@@ -1,7 +1,7 @@
 -- `descent::choose` meets its contract: where the search stands, the tables price every move, and the one taken is the model's.
 use Rattle.engine.proofs.MovePriceLaws.{adding}
 use Rattle.engine.proofs.ClientLaws.{listed-is}
-use Rattle.engine.proofs.NextSetLaws.{listed-within, openings-are, moves-lent, chosen}
+use Rattle.engine.proofs.descent.NextSetLaws.{listed-within, openings-are, moves-lent, chosen}
 use borrow.Author.Needs.{needs}
 use Rattle.engine.proofs.descent.choose.Statement.{statement}
 use Rattle.engine.proofs.descent.choose.Tie as tie

@@ -4,7 +4,7 @@ use native.Mathlib.Omega.{arith}
 use borrow.Author.Needs.{needs}
 use Rattle.engine.proofs.ClientLaws.{listed-is}
 use Rattle.engine.proofs.MovePriceLaws.{cost-now, cost-few}
-use Rattle.engine.proofs.NextSetLaws.{listed-within, openings-are}
+use Rattle.engine.proofs.descent.NextSetLaws.{listed-within, openings-are}
 use Rattle.engine.proofs.descent.cost_now.Statement.{statement}
 use Rattle.engine.proofs.descent.cost_now.Tie as tie
 

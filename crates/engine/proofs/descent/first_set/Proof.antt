@@ -1,6 +1,6 @@
 -- `descent::first_set` meets its contract.
 use borrow.Author.Needs.{needs}
-use Rattle.engine.specs.Search.{startSet}
+use Rattle.engine.specs.SearchOnTables.{startSet}
 use Rattle.engine.proofs.MoveLaws.{set-of}
 use Rattle.engine.proofs.descent.first_set.Statement.{statement}
 use Rattle.engine.proofs.descent.first_set.Tie as tie

@@ -1,5 +1,5 @@
 -- `sums::change` meets its contract: the second alone, or the client counted out and in again.
-use Rattle.engine.proofs.SumChangeLaws.{put-as, put-again}
+use Rattle.engine.proofs.sums.SumChangeLaws.{put-as, put-again}
 use borrow.Author.Needs.{needs}
 use Rattle.engine.proofs.sums.change.Statement.{statement}
 use Rattle.engine.proofs.sums.change.Tie as tie

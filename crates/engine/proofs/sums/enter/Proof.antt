@@ -2,7 +2,7 @@
 use native.Mathlib.Omega.{arith}
 use lib.ListN.{length-set}
 use Rattle.engine.proofs.ClientSumLaws.{kept-row-small, row-room, enter-shifted}
-use Rattle.engine.proofs.SumChangeLaws.{enter-loss-fits, enter-put, enter-kept}
+use Rattle.engine.proofs.sums.SumChangeLaws.{enter-loss-fits, enter-put, enter-kept}
 use borrow.Author.Needs.{needs}
 use Rattle.engine.proofs.sums.enter.Statement.{statement}
 use Rattle.engine.proofs.sums.enter.Tie as tie

@@ -2,7 +2,7 @@
 use native.Mathlib.Omega.{arith}
 use lib.ListN.{length-set}
 use Rattle.engine.proofs.ClientSumLaws.{kept-row-small, row-room, leave-shifted}
-use Rattle.engine.proofs.SumChangeLaws.{leave-loss-fits, leave-loss-enough, leave-put, leave-kept}
+use Rattle.engine.proofs.sums.SumChangeLaws.{leave-loss-fits, leave-loss-enough, leave-put, leave-kept}
 use borrow.Author.Needs.{needs}
 use Rattle.engine.proofs.sums.leave.Statement.{statement}
 use Rattle.engine.proofs.sums.leave.Tie as tie

@@ -1,7 +1,7 @@
 -- `sums::set_second` meets its contract: the laws of the sums that are kept, with what `shift` answers.
 use lib.ListN.{length-set}
 use Rattle.engine.proofs.ClientSumLaws.{kept-row-small, row-room, second-shifted}
-use Rattle.engine.proofs.SumChangeLaws.{second-loss-fits, second-loss-enough, second-put, second-kept}
+use Rattle.engine.proofs.sums.SumChangeLaws.{second-loss-fits, second-loss-enough, second-put, second-kept}
 use native.Mathlib.Omega.{arith}
 use borrow.Author.Needs.{needs}
 use Rattle.engine.proofs.sums.set_second.Statement.{statement}

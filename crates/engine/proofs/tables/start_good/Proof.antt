@@ -2,7 +2,7 @@
 use native.Mathlib.Omega.{arith}
 use Rattle.model.proofs.SetLaws.{one-shl}
 use borrow.Author.Tests.{le-leb, lt-leb}
-use Rattle.engine.specs.Search.{goodStart}
+use Rattle.engine.specs.SearchOnTables.{goodStart}
 use borrow.Author.Needs.{needs}
 use Rattle.engine.proofs.tables.start_good.Statement.{statement}
 use Rattle.engine.proofs.tables.start_good.Tie as tie

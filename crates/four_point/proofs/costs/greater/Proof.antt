@@ -1,7 +1,7 @@
 -- `costs::greater` meets its contract: so small numbers have the same order as signed ones.
 use native.Mathlib.Omega.{arith}
 use mir.Syntax.{w32}
-use Rattle.model.proofs.SignedLaws.{signed-le, signed-gt}
+use Rattle.four_point.proofs.SignedLaws.{signed-le, signed-gt}
 use borrow.Author.Needs.{needs}
 use Rattle.four_point.proofs.costs.greater.Statement.{statement}
 use Rattle.four_point.proofs.costs.greater.Tie as tie

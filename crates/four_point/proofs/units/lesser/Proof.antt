@@ -1,7 +1,7 @@
 -- `units::lesser` meets its contract: so small numbers have the same order as signed ones.
 use native.Mathlib.Omega.{arith}
 use mir.Syntax.{w16}
-use Rattle.model.proofs.SignedLaws.{signed-le, signed-gt}
+use Rattle.four_point.proofs.SignedLaws.{signed-le, signed-gt}
 use borrow.Author.Needs.{needs}
 use Rattle.four_point.proofs.units.lesser.Statement.{statement}
 use Rattle.four_point.proofs.units.lesser.Tie as tie

@@ -9,7 +9,7 @@ use lib.Seq.{getD-set-same, getD-set-other}
 use Rattle.model.proofs.LoopLaws.{up-to}
 use Rattle.model.proofs.SumLaws.{sum-none, sum-more, sum-bound}
 use Rattle.model.proofs.PlaceLaws.{row-within}
-use Rattle.rows.specs.Sums.{wordEnd}
+use Rattle.rows.specs.Shifts.{wordEnd}
 use Rattle.engine.specs.Bounds.{mostEntry, addedFrom, keptLength}
 use Rattle.engine.specs.Rows.{Rows, entry, Addable, RowAdded, Aside, NoSums, ColumnSums}
 

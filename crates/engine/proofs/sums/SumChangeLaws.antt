@@ -10,13 +10,13 @@ use lib.ListN.{length, getD, set, length-set}
 use lib.Seq.{getD-set-same, getD-set-other}
 use Rattle.model.proofs.Bools.{cases}
 use Rattle.model.proofs.SumLaws.{sum-change}
-use Rattle.rows.specs.Sums.{wordEnd}
+use Rattle.rows.specs.Shifts.{wordEnd}
 use Rattle.rows.proofs.ExactLaws.{Shifted, ShiftedBoth}
 use Rattle.engine.specs.Bounds.{mostClients, mostEntry, noFacility, secondsFrom, addedFrom, lossFrom, moreFrom, keptLength}
 use Rattle.engine.specs.Rows.{entry}
 use Rattle.engine.specs.Sums.{firstAt, secondAt, addedSum, moreSum, lossSum, Kept, PutAt, Uncounted}
 use Rattle.engine.proofs.ClientSumLaws.{moreOf, lossOf, least-fills, one-more, one-loss, divided-cost, loss-small, loss-enough}
-use Rattle.engine.proofs.KeptPlaceLaws.{LossStored, RowShifted, stored-room, stored-else, stored-put, stored-loss-alone, loss-step, more-step}
+use Rattle.engine.proofs.sums.KeptPlaceLaws.{LossStored, RowShifted, stored-room, stored-else, stored-put, stored-loss-alone, loss-step, more-step}
 
 -- ---- kept as a client's two nearest change
 

@@ -17,7 +17,7 @@ use Rattle.model.proofs.CostLaws.{opening-plus}
 use Rattle.model.proofs.NearestChangeLaws.{nearestTwo, nearest-with}
 use Rattle.sets.specs.Within.{with32}
 use Rattle.sets.proofs.WithinLaws.{with32-below}
-use Rattle.rows.specs.Sums.{wordEnd}
+use Rattle.rows.specs.Shifts.{wordEnd}
 use Rattle.engine.specs.Bounds.{mostEntry, noFacility, mostServed, addedFrom}
 use Rattle.engine.specs.Tables.{tabled, tableCost, Openings}
 use Rattle.engine.specs.Rows.{entry, Rows, ColumnSums}
