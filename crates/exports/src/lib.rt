@@ -3,10 +3,9 @@
 // Each hands its arguments on to `sheet`, `price` or `search` and gives the answer as one number: bits 0 to 7 the refusal number,
 // 0 where the call is accepted, and above them what the call returns. A refused call gives its number alone. Every call is total.
 ghost use mathlib.Core.Path.{_≡_};
-ghost use Prim.Native.Nat.{_+_, _≤_};
-ghost use lib.ListN.{length, getD, take, drop};
+ghost use lib.ListN.{length, getD};
 ghost use Rattle.questions.specs.Reading.{reading};
-ghost use Rattle.sheet.specs.Stretch.{farmHauls, farmFrom};
+ghost use Rattle.sheet.specs.Stretch.{farmHauls, farmFrom, HaulsFrom};
 ghost use Rattle.price.specs.Pricing.{plannedAnswer, answer, areaAfter, pricing};
 ghost use Rattle.search.specs.Planning.{openPlanning, limitedPlanning};
 ghost use Rattle.search.specs.Promises.{NoOpenMove, BoundedByRivals, OfSize, NoLimitedMove, BoundedByRivalsOf};
@@ -45,8 +44,7 @@ pub extern "C" fn planner_farm_len(sheet: &[u8], farm: usize) -> usize
 #[no_mangle]
 pub extern "C" fn planner_farm_from(sheet: &[u8], farm: usize) -> usize
     ensures from { λ r. ⌜ r ≡ farmFrom (now (sheet .entry)) farm ⌝ }
-    ensures inside { λ r. ⌜ r + length (farmHauls (now (sheet .entry)) farm) ≤ length (now (sheet .entry)) ⌝ }
-    ensures part { λ r. ⌜ take (length (farmHauls (now (sheet .entry)) farm)) (drop r (now (sheet .entry))) ≡ farmHauls (now (sheet .entry)) farm ⌝ }
+    ensures hauls { λ r. ⌜ HaulsFrom (now (sheet .entry)) farm r ⌝ }
 {
     let bytes = sheet::farm_hauls(sheet, farm).len();
     bytes + farm * bytes

@@ -1,6 +1,6 @@
 -- A farm's stretch of a sheet that questions 1 to 4 pass is exactly the farm's m haul records; any other stretch is empty.
 use Prim.Native.Nat.{ℕ, _+_, _*_, _≤_, _<_}
-use native.Mathlib.Nat.{mul-zero}
+use native.Mathlib.Nat.{zero-add, mul-zero}
 use native.Mathlib.Omega.{arith}
 use native.Mathlib.Decide.{decLt}
 use mathlib.Core.Path.{_≡_, refl, sym, ap, _∙_}
@@ -16,7 +16,7 @@ use Rattle.questions.specs.Answers.{Answer, accepted, refused}
 use Rattle.questions.specs.Sheet.{place, haul}
 use Rattle.questions.specs.Shape.{Shape}
 use Rattle.questions.specs.Reading.{Counts, counts, form}
-use Rattle.sheet.specs.Stretch.{stretch, stretchBy, farmHauls, fromBy, farmFrom}
+use Rattle.sheet.specs.Stretch.{stretch, stretchBy, farmHauls, fromBy, farmFrom, HaulsFrom}
 use Rattle.sheet.proofs.StretchLaws.{stretch-is}
 use Rattle.questions.proofs.AcceptedLaws.{has-form, shape-of}
 
@@ -60,18 +60,15 @@ farm-refused s k p h = ap (λ f. stretchBy f s p) h
 
 -- ---- where it begins
 
--- From there on as many bytes as it has lie within the sheet, and they are the farm's hauls. Its length tells where that is: so many bytes
--- for the yards, and so many for each farm before it.
+-- Its length tells where that is: so many bytes for the yards, and so many for each farm before it.
 pub record BeginsAt (s : List ℕ) (p from : ℕ) : Type 0 where
-  pub inside : from + length (farmHauls s p) ≤ length s
-  pub part : take (length (farmHauls s p)) (drop from s) ≡ farmHauls s p
+  pub hauls-there : HaulsFrom s p from
   pub by-length : from ≡ length (farmHauls s p) + p * length (farmHauls s p)
 
 empty-begins : (s : List ℕ) (p from : ℕ) → farmHauls s p ≡ [] → from ≡ 0 → BeginsAt s p from
 empty-begins s p from none start =
     record {
-      inside = rw (none, start) (omega arith);
-      part = rw none refl;
+      hauls-there = (rw (none, start) (omega arith), rw none refl);
       by-length = rw (none, start, mul-zero p) refl;
     }
 
@@ -92,8 +89,19 @@ farm-begins s p = go (form s) refl
               let from : farmFrom s p ≡ 8 * (m + p * m) = ap (λ f. fromBy f p) e ∙ rw (lt-ltb p (c .farms) below) in
               let long = farm-length s m (c .farms) p e below in
               record {
-                inside = rw (from, long) (omega (arith, row-within m (c .farms) p below, shape .room));
-                part = rw (from, long) (sym (farm-stretch s m (c .farms) p e below ∙ part-of s m (c .farms) p shape below));
+                hauls-there = (
+                  rw (from, long) (omega (arith, row-within m (c .farms) p below, shape .room)),
+                  rw (from, long) (sym (farm-stretch s m (c .farms) p e below ∙ part-of s m (c .farms) p shape below)),
+                );
                 by-length = rw (from, long) (omega arith);
               }
         ]
+
+-- so whoever is told the place finds the farm's haul records there
+pub hauls-told : (s : List ℕ) (m n p r a : ℕ) → form s ≡ accepted (counts m n) → p < n → a < m
+    → HaulsFrom s p r → recordAt (drop r s) a ≡ recordOf haulKind a p 0 (haul s m a p)
+hauls-told s m n p r a good farm yard told =
+    let long = farm-length s m n p good farm in
+    let here : take (8 * m) (drop r s) ≡ farmHauls s p = ap (λ (k : ℕ). take k (drop r s)) (sym long) ∙ told .1 in
+    sym (part-record (drop r s) 0 m a yard ∙ ap (recordAt (drop r s)) (zero-add a))
+    ∙ (ap (λ (x : List ℕ). recordAt x a) here ∙ farm-record s m n p good farm a yard)

@@ -1,5 +1,6 @@
 -- A farm's stretch of the sheet: its haul records, where they lie.
-use Prim.Native.Nat.{ℕ, _+_, _*_}
+use Prim.Native.Nat.{ℕ, _+_, _*_, _≤_}
+use mathlib.Core.Path.{_≡_}
 use mathlib.Core.Bool.{cond, _&&_}
 use mathlib.Core.List.{List, []}
 use lib.ListN.{length, take, drop}
@@ -30,3 +31,7 @@ fromBy (refused k) p = 0
 
 unfoldable pub farmFrom : List ℕ → ℕ → ℕ
 farmFrom s p = fromBy (form s) p
+
+-- what holds of that place: from it on as many bytes as the stretch has lie within the sheet, and they are the farm's hauls
+abbrev pub HaulsFrom : List ℕ → ℕ → ℕ → Type 0
+HaulsFrom s p from = (from + length (farmHauls s p) ≤ length s) × (take (length (farmHauls s p)) (drop from s) ≡ farmHauls s p)

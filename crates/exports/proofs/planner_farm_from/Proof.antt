@@ -13,18 +13,18 @@ farm-hauls-requires c κs = search needs
 mul-result : tie.Need-mul-result
 mul-result c = let start = c .before .before .args in
     let b = farm-begins (start .sheet .now) (start .farm) in
-    rw (ap length (c .farm-hauls .ensures)) (omega (arith, b .by-length, b .inside))
+    rw (ap length (c .farm-hauls .ensures)) (omega (arith, b .by-length, b .hauls-there .0))
 
 add-result : tie.Need-add-result
 add-result c = let start = c .before .before .args in
     let b = farm-begins (start .sheet .now) (start .farm) in
-    rw (ap length (c .farm-hauls .ensures)) (omega (arith, b .by-length, b .inside))
+    rw (ap length (c .farm-hauls .ensures)) (omega (arith, b .by-length, b .hauls-there .0))
 
 returns : tie.Need-returns
 returns c = let start = c .before .before .args in
     let b = farm-begins (start .sheet .now) (start .farm) in
     let is = ap length (c .farm-hauls .ensures) in
-    rw (is, ← b .by-length) (refl, (b .inside, b .part))
+    rw (is, ← b .by-length) (refl, b .hauls-there)
 
 pub planner-farm-from-spec : {M : Type 1} → statement M
 planner-farm-from-spec = tie.close (tie.spec farm-hauls-requires mul-result add-result returns)
