@@ -34,9 +34,9 @@ module _ (costs : List ℕ) (plus minus : ℕ) (sums : List ℕ) (at : ℕ) wher
   unfolding shifted
   no-row l = rw (lt-leb columns (length costs) l)
 
-  pub no-room : columns ≤ length costs → fits at (length sums) ≡ false → sums ≡ shifted costs plus minus sums at
+  pub no-room-for-sums : columns ≤ length costs → fits at (length sums) ≡ false → sums ≡ shifted costs plus minus sums at
   unfolding shifted
-  no-room r e = rw (le-leb columns (length costs) r, e)
+  no-room-for-sums r e = rw (le-leb columns (length costs) r, e)
 
   pub shifts-up : (after : List ℕ) → columns ≤ length costs → fits at (length sums) ≡ true → plus ≤ minus
       → after ≡ raised (betweenAt costs plus minus) at sums → after ≡ shifted costs plus minus sums at

@@ -9,15 +9,15 @@ use lib.Seq.{getD-set-same, getD-set-other}
 use Rattle.model.specs.Passing.{through}
 use Rattle.model.proofs.PassingLaws.{through-more}
 use Rattle.model.proofs.LoopLaws.{up-to}
-use Rattle.rows.specs.Shifts.{changeAt, changed, Filled}
+use Rattle.rows.specs.Shifts.{changeAt, changed, FrontHolds}
 
 -- ---- a turn
 
-pub filled-none : (f : ℕ → ℕ) (table : List ℕ) → Filled 0 f table
-filled-none f table i l = absurd (not-suc-le-zero l)
+pub front-none : (f : ℕ → ℕ) (table : List ℕ) → FrontHolds 0 f table
+front-none f table i l = absurd (not-suc-le-zero l)
 
-pub filled-more : (f : ℕ → ℕ) (i x : ℕ) (table : List ℕ) → i < length table → x ≡ f i → Filled i f table → Filled (i + 1) f (set table i x)
-filled-more f i x table room is done k l =
+pub front-more : (f : ℕ → ℕ) (i x : ℕ) (table : List ℕ) → i < length table → x ≡ f i → FrontHolds i f table → FrontHolds (i + 1) f (set table i x)
+front-more f i x table room is done k l =
     up-to (λ k. getD (set table i x) k 0 ≡ f k) i
     (λ k l. getD-set-other table i k x 0 (λ q. omega arith) ∙ done k l)
     (getD-set-same table i x 0 room ∙ is) k (omega arith)

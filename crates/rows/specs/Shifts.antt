@@ -95,5 +95,5 @@ shiftedOut costs first second sums added more =
 -- ---- for private functions alone
 
 -- the first so many places of a table hold what f has for them
-abbrev pub Filled : ℕ → (ℕ → ℕ) → List ℕ → Type 0
-Filled count f table = (i : ℕ) → i < count → getD table i 0 ≡ f i
+abbrev pub FrontHolds : ℕ → (ℕ → ℕ) → List ℕ → Type 0
+FrontHolds count f table = (i : ℕ) → i < count → getD table i 0 ≡ f i

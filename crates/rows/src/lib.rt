@@ -5,7 +5,7 @@
 ghost use mathlib.Core.Path.{_≡_};
 ghost use Prim.Native.Nat.{_+_, _≤_};
 ghost use lib.ListN.{length};
-ghost use Rattle.rows.specs.Shifts.{columns, fits, above, Filled, aboveAt, betweenAt, raised, lowered, shifted, shiftedIn, shiftedOut};
+ghost use Rattle.rows.specs.Shifts.{columns, fits, above, FrontHolds, aboveAt, betweenAt, raised, lowered, shifted, shiftedIn, shiftedOut};
 
 pub const COLUMNS: usize = 32;
 
@@ -29,7 +29,7 @@ fn over(cost: u32, other: u32) -> u32
 // What each cost of a row is above `low` and not above `high`.
 fn differences(costs: &[u32], low: u32, high: u32, by: &mut [u32])
     requires { ⌜ (columns ≤ length (now costs)) × (columns ≤ length (now by)) ⌝ }
-    ensures { λ _. ⌜ Filled columns (betweenAt (now (costs .entry)) low high) (now (by .exit)) ⌝ }
+    ensures { λ _. ⌜ FrontHolds columns (betweenAt (now (costs .entry)) low high) (now (by .exit)) ⌝ }
 {
     let mut i = 0;
     while i < COLUMNS {
@@ -42,8 +42,8 @@ fn differences(costs: &[u32], low: u32, high: u32, by: &mut [u32])
 // What each cost of a row is above `first`, and the part of it that is not above `second`.
 fn both_differences(costs: &[u32], first: u32, second: u32, whole: &mut [u32], part: &mut [u32])
     requires { ⌜ (columns ≤ length (now costs)) × (columns ≤ length (now whole)) × (columns ≤ length (now part)) ⌝ }
-    ensures whole { λ _. ⌜ Filled columns (aboveAt (now (costs .entry)) first) (now (whole .exit)) ⌝ }
-    ensures part { λ _. ⌜ Filled columns (betweenAt (now (costs .entry)) first second) (now (part .exit)) ⌝ }
+    ensures whole { λ _. ⌜ FrontHolds columns (aboveAt (now (costs .entry)) first) (now (whole .exit)) ⌝ }
+    ensures part { λ _. ⌜ FrontHolds columns (betweenAt (now (costs .entry)) first second) (now (part .exit)) ⌝ }
 {
     let mut i = 0;
     while i < COLUMNS {

@@ -3,8 +3,8 @@ use mathlib.Core.Path.{_≡_, refl}
 use Prim.Native.Nat.{_≤_, _-_}
 use native.Mathlib.Omega.{arith}
 use lib.ListN.{length, length-set}
-use Rattle.rows.specs.Shifts.{aboveAt, betweenAt, Filled}
-use Rattle.rows.proofs.ChangeLaws.{filled-none, filled-more}
+use Rattle.rows.specs.Shifts.{aboveAt, betweenAt, FrontHolds}
+use Rattle.rows.proofs.ChangeLaws.{front-none, front-more}
 use Rattle.rows.proofs.WrapLaws.{above-taken, between-taken}
 use borrow.Author.Needs.{needs}
 use Rattle.rows.proofs.both_differences.Statement.{statement}
@@ -12,7 +12,7 @@ use Rattle.rows.proofs.both_differences.Tie as tie
 
 abbrev Inv-loop : tie.InvT-loop
 Inv-loop costs first second whole₀ part₀ i₀ whole part i = (i ≤ 32) × (length whole ≡ length whole₀) × (length part ≡ length part₀)
-    × Filled i (aboveAt costs first) whole × Filled i (betweenAt costs first second) part
+    × FrontHolds i (aboveAt costs first) whole × FrontHolds i (betweenAt costs first second) part
 
 abbrev μ-loop : tie.MeasureT-loop
 μ-loop costs first second whole₀ part₀ i₀ whole part i = 32 - i
@@ -22,8 +22,8 @@ loop-holds c = let a = c .before .before .before .args in (
   omega arith,
   refl,
   refl,
-  filled-none (aboveAt (a .costs .now) (a .first)) (a .whole .now),
-  filled-none (betweenAt (a .costs .now) (a .first) (a .second)) (a .part .now),
+  front-none (aboveAt (a .costs .now) (a .first)) (a .whole .now),
+  front-none (betweenAt (a .costs .now) (a .first) (a .second)) (a .part .now),
 )
 
 mul-cost : tie.Need-mul-cost Inv-loop μ-loop
@@ -65,9 +65,9 @@ loop-again c = let a = c .before .before .before .before .before .before .before
       omega arith,
       simp length-set (l .inv .1),
       simp length-set (l .inv .2),
-      filled-more (aboveAt (a .costs .now) (a .first)) (l .i) _ (l .whole) (omega arith)
+      front-more (aboveAt (a .costs .now) (a .first)) (l .i) _ (l .whole) (omega arith)
           (above-taken (a .costs .now) (a .first) (l .i) _ (c .before .before .over .ensures)) (l .inv .3),
-      filled-more (betweenAt (a .costs .now) (a .first) (a .second)) (l .i) _ (l .part) (omega arith)
+      front-more (betweenAt (a .costs .now) (a .first) (a .second)) (l .i) _ (l .part) (omega arith)
           (between-taken (a .costs .now) (a .first) (a .second) (l .i) _ _ _ (c .before .before .over .ensures) (c .before .over2 .ensures) (search needs) (search needs) (c .wrapping-sub-u32 .ensures)) (l .inv .4),
     )
 

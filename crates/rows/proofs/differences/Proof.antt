@@ -3,21 +3,21 @@ use mathlib.Core.Path.{_≡_, refl}
 use Prim.Native.Nat.{_≤_, _-_}
 use native.Mathlib.Omega.{arith}
 use lib.ListN.{length, length-set}
-use Rattle.rows.specs.Shifts.{betweenAt, Filled}
-use Rattle.rows.proofs.ChangeLaws.{filled-none, filled-more}
+use Rattle.rows.specs.Shifts.{betweenAt, FrontHolds}
+use Rattle.rows.proofs.ChangeLaws.{front-none, front-more}
 use Rattle.rows.proofs.WrapLaws.{between-taken}
 use borrow.Author.Needs.{needs}
 use Rattle.rows.proofs.differences.Statement.{statement}
 use Rattle.rows.proofs.differences.Tie as tie
 
 abbrev Inv-loop : tie.InvT-loop
-Inv-loop costs low high by₀ i₀ by i = (i ≤ 32) × (length by ≡ length by₀) × Filled i (betweenAt costs low high) by
+Inv-loop costs low high by₀ i₀ by i = (i ≤ 32) × (length by ≡ length by₀) × FrontHolds i (betweenAt costs low high) by
 
 abbrev μ-loop : tie.MeasureT-loop
 μ-loop costs low high by₀ i₀ by i = 32 - i
 
 loop-holds : tie.Need-loop-holds Inv-loop μ-loop
-loop-holds c = let a = c .before .before .args in (omega arith, refl, filled-none (betweenAt (a .costs .now) (a .low) (a .high)) (a .by .now))
+loop-holds c = let a = c .before .before .args in (omega arith, refl, front-none (betweenAt (a .costs .now) (a .low) (a .high)) (a .by .now))
 
 mul-cost : tie.Need-mul-cost Inv-loop μ-loop
 mul-cost c = omega arith
@@ -51,7 +51,7 @@ loop-again c = let a = c .before .before .before .before .before .before .before
     let l = c .before .before .before .before .before .loop in (
       omega arith,
       simp length-set (l .inv .1),
-      filled-more (betweenAt (a .costs .now) (a .low) (a .high)) (l .i) _ (l .by) (omega arith)
+      front-more (betweenAt (a .costs .now) (a .low) (a .high)) (l .i) _ (l .by) (omega arith)
           (between-taken (a .costs .now) (a .low) (a .high) (l .i) _ _ _ (c .before .before .over .ensures) (c .before .over2 .ensures) (search needs) (search needs) (c .wrapping-sub-u32 .ensures)) (l .inv .2),
     )
 

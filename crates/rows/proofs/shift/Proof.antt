@@ -1,6 +1,6 @@
 -- `shift` meets its contract: room for the row and for the sums, then up or down.
 use Rattle.model.proofs.Bools.{said-no, said-yes}
-use Rattle.rows.proofs.CallLaws.{fits-true, no-row, no-room, shifts-up, shifts-down}
+use Rattle.rows.proofs.CallLaws.{fits-true, no-row, no-room-for-sums, shifts-up, shifts-down}
 use borrow.Author.Needs.{needs}
 use Rattle.rows.proofs.shift.Statement.{statement}
 use Rattle.rows.proofs.shift.Tie as tie
@@ -12,7 +12,7 @@ columns-fit-requires : tie.Need-columns-fit-requires
 columns-fit-requires c κs = search needs
 
 returns-2 : tie.Need-returns-2
-returns-2 c = no-room _ _ _ _ _ (c .before .before .if1 .left) (said-no (c .before .columns-fit .ensures) (c .if2 .taken))
+returns-2 c = no-room-for-sums _ _ _ _ _ (c .before .before .if1 .left) (said-no (c .before .columns-fit .ensures) (c .if2 .taken))
 
 raise-requires : tie.Need-raise-requires
 raise-requires c κs = (c .before .before .before .before .if1 .left, fits-true _ _ (said-yes (c .before .before .before .columns-fit .ensures) (c .before .before .if2 .left)))
