@@ -1,5 +1,5 @@
 -- What a sheet has that passes questions 1 to 4, question by question.
-use Prim.Native.Nat.{ℕ, _+_, _-_, _*_, _/_, _%_, _≤_, _<_}
+use Prim.Native.Nat.{ℕ, _+_, _-_, _*_, _/_, _≤_, _<_}
 use native.Mathlib.Omega.{arith}
 use mathlib.Core.Path.{_≡_, refl}
 use mathlib.Core.Bool.{true, false, _&&_}
@@ -13,7 +13,8 @@ use Rattle.model.proofs.LoopLaws.{leading-le, all-at}
 use Rattle.record.specs.Records.{recordAt}
 use Rattle.questions.specs.Bounds.{mostYards, mostFarms}
 use Rattle.questions.specs.Sheet.{records, isYard, yards, hauls, farms, place}
-use Rattle.questions.specs.Questions.{question1, question2, question3, question4, wellFormed, wellFormedAt, numbered, noYardAfter, haulInPlace, farmInPlace}
+use Rattle.questions.specs.Questions.{question2, question3, question4, wellFormed, wellFormedAt, numbered, noYardAfter, haulInPlace, farmInPlace}
+use Rattle.questions.proofs.QuestionLaws.{length-said}
 use Rattle.questions.proofs.ReadingLaws.{Formed}
 
 module _ (s : List ℕ) where
@@ -43,8 +44,7 @@ module _ (s : List ℕ) where
   module _ (y : Formed s) where
     -- the sheet ends with its last record
     pub whole-records : length s ≡ 8 * records s
-    unfolding question1
-    whole-records = let h = eqb-true (length s % 8) 0 (and-left _ _ (y .first)) in omega arith
+    whole-records = omega (arith, length-said s (y .first) .0)
 
     pub well-formed : (i : ℕ) → i < records s → wellFormed (recordAt s i) ≡ true
     unfolding question2 wellFormedAt

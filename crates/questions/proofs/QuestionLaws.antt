@@ -1,6 +1,6 @@
 -- Laws of questions 1 to 5: what a record that was read answers, and which part of a question decides it.
-use Prim.Native.Nat.{ℕ, _+_, _*_, _%_, _≤_, _<_}
-use mathlib.Core.Path.{_≡_, ap, _∙_}
+use Prim.Native.Nat.{ℕ, _*_, _%_, _≤_, _<_}
+use mathlib.Core.Path.{_≡_, ap}
 use mathlib.Core.Bool.{true, false, _&&_, and-false}
 use mathlib.Core.List.{List}
 use borrow.Author.Tests.{eq-eqb, ne-eqb, le-leb, lt-leb, eqb-true, leb-true}
@@ -9,33 +9,29 @@ use lib.Dec.{eqb, leb}
 use Rattle.model.specs.Loops.{allBelow}
 use Rattle.model.proofs.Bools.{and-left, and-right}
 use Rattle.record.specs.declared.Record.{Record}
-use Rattle.record.specs.Records.{recordAt, wholeRecordAt}
-use Rattle.record.proofs.RecordLaws.{whole}
+use Rattle.record.specs.Records.{recordAt}
 use Rattle.questions.specs.Bounds.{yardKind, leastBytes, mostBytes, mostYards, mostFarms, mostFee, mostHaul}
 use Rattle.questions.specs.Sheet.{isYard, yards, hauls, farms, place}
 use Rattle.questions.specs.Questions.{question1, wellFormed, wellFormedAt, question3, numbered, noYardAfter, question4, haulInPlace, farmInPlace, question5, amountWithin}
 
 -- ---- one record
 
-module _ (s : List ℕ) (i : ℕ) (r : Record) (room : 8 * i + 8 ≤ length s) (read : r ≡ wholeRecordAt s i) where
-  is-there : r ≡ recordAt s i
-  is-there = read ∙ whole s i room
-
+module _ (s : List ℕ) (i : ℕ) (r : Record) (is : r ≡ recordAt s i) where
   pub well-formed-read : wellFormed r ≡ wellFormedAt s i
   unfolding wellFormedAt
-  well-formed-read = ap wellFormed is-there
+  well-formed-read = ap wellFormed is
 
   pub yard-read : eqb (r .kind) yardKind ≡ isYard s i
   unfolding isYard
-  yard-read = ap (λ (x : Record). eqb (x .kind) yardKind) is-there
+  yard-read = ap (λ (x : Record). eqb (x .kind) yardKind) is
 
   pub numbered-read : eqb (r .yard) i ≡ numbered s i
   unfolding numbered
-  numbered-read = ap (λ (x : Record). eqb (x .yard) i) is-there
+  numbered-read = ap (λ (x : Record). eqb (x .yard) i) is
 
   pub in-place-read : (m p a : ℕ) → i ≡ place m p a → (eqb (r .yard) a && eqb (r .farm) p) ≡ haulInPlace s m p a
   unfolding haulInPlace
-  in-place-read m p a e = rw (← e) (ap (λ (x : Record). eqb (x .yard) a && eqb (x .farm) p) is-there)
+  in-place-read m p a e = rw (← e) (ap (λ (x : Record). eqb (x .yard) a && eqb (x .farm) p) is)
 
 module _ (s : List ℕ) where
   -- ---- question 1

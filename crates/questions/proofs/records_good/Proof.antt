@@ -8,6 +8,7 @@ use Rattle.model.specs.Loops.{allBelow}
 use Rattle.model.proofs.LoopLaws.{all-none, all-more, all-stops}
 use Rattle.questions.specs.Sheet.{records}
 use Rattle.questions.specs.Questions.{wellFormedAt, question2}
+use Rattle.record.proofs.RecordLaws.{whole}
 use Rattle.questions.proofs.QuestionLaws.{well-formed-read}
 use Rattle.questions.proofs.records_good.Statement.{statement}
 use Rattle.questions.proofs.records_good.Tie as tie
@@ -30,7 +31,7 @@ well-formed-requires c κs = omega arith
 returns : tie.Need-returns Inv-loop μ-loop
 unfolding question2
 returns c = let asked = c .before in
-    let test = asked .well-formed .ensures ∙ well-formed-read _ _ _ (omega arith) (asked .before .at .ensures) in
+    let test = asked .well-formed .ensures ∙ well-formed-read _ _ _ (asked .before .at .ensures ∙ whole _ _ (omega arith)) in
     sym (all-stops _ _ (asked .before .before .before .loop .i) (omega arith) (said-no test (c .if1 .taken)))
 
 add-i : tie.Need-add-i Inv-loop μ-loop
@@ -41,7 +42,7 @@ loop-less c = omega arith
 
 loop-again : tie.Need-loop-again Inv-loop μ-loop
 loop-again c = let asked = c .before in
-    let test = asked .well-formed .ensures ∙ well-formed-read _ _ _ (omega arith) (asked .before .at .ensures) in
+    let test = asked .well-formed .ensures ∙ well-formed-read _ _ _ (asked .before .at .ensures ∙ whole _ _ (omega arith)) in
     (omega arith, all-more _ _ (asked .before .before .before .loop .inv .1) (said-yes test (c .if1 .left)))
 
 returns-2 : tie.Need-returns-2 Inv-loop μ-loop

@@ -49,14 +49,9 @@ module _ (r : Record) (kind yard farm most : ℕ) where
       }
 
 -- what the pass learns of record i
-module _ (s : List ℕ) (i : ℕ) (r : Record) (is : r ≡ recordAt s i) where
-  pub is-yard : isYard s i ≡ eqb (r .kind) yardKind
-  unfolding isYard
-  is-yard = ap (λ (x : Record). eqb (x .kind) yardKind) (sym is)
-
-  pub yard-tested : recordIs r yardKind i 0 mostFee ≡ goodYard s i
-  unfolding goodYard
-  yard-tested = ap (λ x. recordIs x yardKind i 0 mostFee) is
+pub yard-tested : (s : List ℕ) (i : ℕ) (r : Record) → r ≡ recordAt s i → recordIs r yardKind i 0 mostFee ≡ goodYard s i
+unfolding goodYard
+yard-tested s i r is = ap (λ x. recordIs x yardKind i 0 mostFee) is
 
 -- what the pass learns of the record at the place of a haul
 module _ (s : List ℕ) (m p a : ℕ) (r : Record) (b : Bool) (is : r ≡ recordAt s (place m p a)) (tested : b ≡ recordIs r haulKind a p mostHaul) where

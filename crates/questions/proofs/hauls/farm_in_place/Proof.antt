@@ -1,5 +1,5 @@
 -- `hauls::farm_in_place` meets its contract. The invariant: every haul passed is in its place.
-use mathlib.Core.Path.{_≡_, refl, sym}
+use mathlib.Core.Path.{_≡_, refl, sym, _∙_}
 use mathlib.Core.Bool.{true}
 use Prim.Native.Nat.{_≤_, _-_}
 use native.Mathlib.Omega.{arith}
@@ -7,6 +7,7 @@ use borrow.Author.Tests.{eq-eqb, ne-eqb}
 use Rattle.model.specs.Loops.{allBelow}
 use Rattle.model.proofs.LoopLaws.{all-none, all-more, all-stops}
 use Rattle.questions.specs.Questions.{haulInPlace, farmInPlace}
+use Rattle.record.proofs.RecordLaws.{whole}
 use Rattle.questions.proofs.QuestionLaws.{in-place-read}
 use Rattle.questions.proofs.hauls.farm_in_place.Statement.{statement}
 use Rattle.questions.proofs.hauls.farm_in_place.Tie as tie
@@ -38,7 +39,7 @@ cast-if1 c = omega arith
 returns : tie.Need-returns Inv-loop μ-loop
 unfolding farmInPlace
 returns c = let read = c .before .before in
-    let wrong = rw (ne-eqb _ _ (c .if1 .taken)) at (in-place-read _ _ _ (omega arith) (read .at .ensures) _ _ _ refl) in
+    let wrong = rw (ne-eqb _ _ (c .if1 .taken)) at (in-place-read _ _ _ (read .at .ensures ∙ whole _ _ (omega arith)) _ _ _ refl) in
     sym (all-stops _ _ (read .before .before .loop .a) (omega arith) (sym wrong))
 
 cast-if2 : tie.Need-cast-if2 Inv-loop μ-loop
@@ -48,7 +49,7 @@ returns-2 : tie.Need-returns-2 Inv-loop μ-loop
 unfolding farmInPlace
 returns-2 c = let first = c .before .before in
     let read = first .before .before in
-    let wrong = rw (eq-eqb _ _ (first .if1 .left), ne-eqb _ _ (c .if2 .taken)) at (in-place-read _ _ _ (omega arith) (read .at .ensures) _ _ _ refl) in
+    let wrong = rw (eq-eqb _ _ (first .if1 .left), ne-eqb _ _ (c .if2 .taken)) at (in-place-read _ _ _ (read .at .ensures ∙ whole _ _ (omega arith)) _ _ _ refl) in
     sym (all-stops _ _ (read .before .before .loop .a) (omega arith) (sym wrong))
 
 add-a : tie.Need-add-a Inv-loop μ-loop
@@ -60,7 +61,7 @@ loop-less c = omega arith
 loop-again : tie.Need-loop-again Inv-loop μ-loop
 loop-again c = let first = c .before .before in
     let read = first .before .before in
-    let right = rw (eq-eqb _ _ (first .if1 .left), eq-eqb _ _ (c .if2 .left)) at (in-place-read _ _ _ (omega arith) (read .at .ensures) _ _ _ refl) in
+    let right = rw (eq-eqb _ _ (first .if1 .left), eq-eqb _ _ (c .if2 .left)) at (in-place-read _ _ _ (read .at .ensures ∙ whole _ _ (omega arith)) _ _ _ refl) in
     (omega arith, all-more _ _ (read .before .before .loop .inv .1) (sym right))
 
 returns-3 : tie.Need-returns-3 Inv-loop μ-loop

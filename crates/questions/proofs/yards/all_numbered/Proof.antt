@@ -7,6 +7,7 @@ use borrow.Author.Tests.{eq-eqb, ne-eqb}
 use Rattle.model.specs.Loops.{allBelow}
 use Rattle.model.proofs.LoopLaws.{all-none, all-more, all-stops}
 use Rattle.questions.specs.Questions.{numbered}
+use Rattle.record.proofs.RecordLaws.{whole}
 use Rattle.questions.proofs.QuestionLaws.{numbered-read}
 use Rattle.questions.proofs.yards.all_numbered.Statement.{statement}
 use Rattle.questions.proofs.yards.all_numbered.Tie as tie
@@ -28,7 +29,7 @@ cast-if1 c = omega arith
 
 returns : tie.Need-returns Inv-loop μ-loop
 returns c = let read = c .before .before in
-    let wrong = sym (numbered-read _ _ _ (omega arith) (read .at .ensures)) ∙ ne-eqb _ _ (c .if1 .taken) in
+    let wrong = sym (numbered-read _ _ _ (read .at .ensures ∙ whole _ _ (omega arith))) ∙ ne-eqb _ _ (c .if1 .taken) in
     sym (all-stops _ _ (read .before .before .loop .i) (omega arith) wrong)
 
 add-i : tie.Need-add-i Inv-loop μ-loop
@@ -39,7 +40,7 @@ loop-less c = omega arith
 
 loop-again : tie.Need-loop-again Inv-loop μ-loop
 loop-again c = let read = c .before .before in
-    let right = sym (numbered-read _ _ _ (omega arith) (read .at .ensures)) ∙ eq-eqb _ _ (c .if1 .left) in
+    let right = sym (numbered-read _ _ _ (read .at .ensures ∙ whole _ _ (omega arith))) ∙ eq-eqb _ _ (c .if1 .left) in
     (omega arith, all-more _ _ (read .before .before .loop .inv .1) right)
 
 returns-2 : tie.Need-returns-2 Inv-loop μ-loop

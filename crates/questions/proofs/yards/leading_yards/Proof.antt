@@ -6,6 +6,7 @@ use borrow.Author.Tests.{eq-eqb, ne-eqb}
 use Rattle.model.specs.Loops.{leading}
 use Rattle.model.proofs.LoopLaws.{leading-none, leading-more, leading-stops}
 use Rattle.questions.specs.Sheet.{records, isYard, yards}
+use Rattle.record.proofs.RecordLaws.{whole}
 use Rattle.questions.proofs.QuestionLaws.{yard-read}
 use Rattle.questions.proofs.yards.leading_yards.Statement.{statement}
 use Rattle.questions.proofs.yards.leading_yards.Tie as tie
@@ -30,7 +31,7 @@ loop-less c = omega arith
 
 loop-again : tie.Need-loop-again Inv-loop μ-loop
 loop-again c = let read = c .before .before in
-    let yard = sym (yard-read _ _ _ (omega arith) (read .at .ensures)) ∙ eq-eqb _ _ (c .if1 .left) in
+    let yard = sym (yard-read _ _ _ (read .at .ensures ∙ whole _ _ (omega arith))) ∙ eq-eqb _ _ (c .if1 .left) in
     (omega arith, leading-more _ _ (read .before .before .loop .inv .1) yard)
 
 returns : tie.Need-returns Inv-loop μ-loop
@@ -41,7 +42,7 @@ returns c = let e : c .before .loop .i ≡ records (c .before .before .before .a
 returns-2 : tie.Need-returns-2 Inv-loop μ-loop
 unfolding yards
 returns-2 c = let read = c .before .before in
-    let no-yard = sym (yard-read _ _ _ (omega arith) (read .at .ensures)) ∙ ne-eqb _ _ (c .if1 .taken) in
+    let no-yard = sym (yard-read _ _ _ (read .at .ensures ∙ whole _ _ (omega arith))) ∙ ne-eqb _ _ (c .if1 .taken) in
     sym (leading-stops _ _ (read .before .before .loop .i) (read .before .before .loop .inv .1) (omega arith) no-yard)
 
 pub leading-yards-spec : {M : Type 1} → statement M

@@ -8,6 +8,7 @@ use Rattle.model.specs.Loops.{allBelow}
 use Rattle.model.proofs.LoopLaws.{all-none, all-more, all-stops}
 use Rattle.questions.specs.Sheet.{hauls}
 use Rattle.questions.specs.Questions.{noYardAfter}
+use Rattle.record.proofs.RecordLaws.{whole}
 use Rattle.questions.proofs.QuestionLaws.{yard-read}
 use Rattle.questions.proofs.FormLaws.{yards-le, hauls-are}
 use Rattle.questions.proofs.yards.no_yard_after.Statement.{statement}
@@ -34,7 +35,7 @@ at-requires c κs = omega arith
 returns : tie.Need-returns Inv-loop μ-loop
 unfolding noYardAfter
 returns c = let read = c .before .before in
-    let yard = sym (yard-read _ _ _ (omega arith) (read .at .ensures)) ∙ eq-eqb _ _ (c .if1 .taken) in
+    let yard = sym (yard-read _ _ _ (read .at .ensures ∙ whole _ _ (omega arith))) ∙ eq-eqb _ _ (c .if1 .taken) in
     sym (all-stops _ _ (read .before .before .loop .i) (omega (arith, hauls-are (read .before .before .before .before .args .sheet .now))) (ap not yard))
 
 add-i : tie.Need-add-i Inv-loop μ-loop
@@ -46,7 +47,7 @@ loop-less c = omega arith
 loop-again : tie.Need-loop-again Inv-loop μ-loop
 unfolding noYardAfter
 loop-again c = let read = c .before .before in
-    let no-yard = sym (yard-read _ _ _ (omega arith) (read .at .ensures)) ∙ ne-eqb _ _ (c .if1 .left) in
+    let no-yard = sym (yard-read _ _ _ (read .at .ensures ∙ whole _ _ (omega arith))) ∙ ne-eqb _ _ (c .if1 .left) in
     (omega arith, all-more _ _ (read .before .before .loop .inv .1) (ap not no-yard))
 
 returns-2 : tie.Need-returns-2 Inv-loop μ-loop

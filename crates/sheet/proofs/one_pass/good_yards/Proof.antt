@@ -1,5 +1,5 @@
 -- `one_pass::good_yards` meets its contract. The invariant: every record passed is a yard, and a good one.
-use mathlib.Core.Path.{_≡_, _∙_}
+use mathlib.Core.Path.{_≡_, sym, _∙_}
 use mathlib.Core.Bool.{true}
 use Prim.Native.Nat.{_≤_, _-_}
 use native.Mathlib.Omega.{arith}
@@ -9,8 +9,9 @@ use Rattle.model.proofs.Bools.{said-no, said-yes}
 use Rattle.model.proofs.LoopLaws.{all-none, all-more, leading-none, leading-more, leading-stops}
 use Rattle.questions.specs.Bounds.{mostYards}
 use Rattle.questions.specs.Sheet.{records, isYard, yards}
+use Rattle.questions.proofs.QuestionLaws.{yard-read}
 use Rattle.sheet.specs.OnePass.{goodYard}
-use Rattle.sheet.proofs.one_pass.OnePassLaws.{is-yard, yard-tested, yards-good, yards-many, yards-bad}
+use Rattle.sheet.proofs.one_pass.OnePassLaws.{yard-tested, yards-good, yards-many, yards-bad}
 use Rattle.sheet.proofs.one_pass.good_yards.Statement.{statement}
 use Rattle.sheet.proofs.one_pass.good_yards.Tie as tie
 
@@ -29,7 +30,7 @@ record-within-requires c κs = omega arith
 returns : tie.Need-returns Inv-loop μ-loop
 returns c = let read = c .before .before .before in
     let turn = read .before .before in
-    let yard = is-yard _ _ _ (read .record-within .ensures) ∙ eq-eqb _ _ (c .before .if1 .left) in
+    let yard = sym (yard-read _ _ _ (read .record-within .ensures)) ∙ eq-eqb _ _ (c .before .if1 .left) in
     yards-many _ _ (leading-more _ (turn .loop .i) (turn .loop .inv .2) yard) (omega arith) (omega arith)
 
 cast-record-is : tie.Need-cast-record-is Inv-loop μ-loop
@@ -43,7 +44,7 @@ returns-2 c = let tested = c .before in
     let kind = tested .before .before in
     let read = kind .before .before in
     let turn = read .before .before in
-    let yard = is-yard _ _ _ (read .record-within .ensures) ∙ eq-eqb _ _ (kind .if1 .left) in
+    let yard = sym (yard-read _ _ _ (read .record-within .ensures)) ∙ eq-eqb _ _ (kind .if1 .left) in
     let bad = said-no (tested .record-is .ensures ∙ yard-tested _ _ _ (read .record-within .ensures)) (c .if3 .taken) in
     yards-bad _ _ (leading-more _ (turn .loop .i) (turn .loop .inv .2) yard) (omega arith) bad
 
@@ -58,7 +59,7 @@ loop-again c = let tested = c .before in
     let kind = tested .before .before in
     let read = kind .before .before in
     let turn = read .before .before in
-    let yard = is-yard _ _ _ (read .record-within .ensures) ∙ eq-eqb _ _ (kind .if1 .left) in
+    let yard = sym (yard-read _ _ _ (read .record-within .ensures)) ∙ eq-eqb _ _ (kind .if1 .left) in
     let good = said-yes (tested .record-is .ensures ∙ yard-tested _ _ _ (read .record-within .ensures)) (c .if3 .left) in
     (omega arith, omega arith, leading-more _ _ (turn .loop .inv .2) yard, all-more _ _ (turn .loop .inv .3) good)
 
@@ -72,7 +73,7 @@ returns-4 : tie.Need-returns-4 Inv-loop μ-loop
 unfolding yards
 returns-4 c = let read = c .before .before in
     let turn = read .before .before in
-    let other = is-yard _ _ _ (read .record-within .ensures) ∙ ne-eqb _ _ (c .if1 .taken) in
+    let other = sym (yard-read _ _ _ (read .record-within .ensures)) ∙ ne-eqb _ _ (c .if1 .taken) in
     yards-good _ _ (leading-stops _ _ (turn .loop .i) (turn .loop .inv .2) (omega arith) other) (turn .loop .inv .1) (turn .loop .inv .3)
 
 pub good-yards-spec : {M : Type 1} → statement M
