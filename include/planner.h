@@ -22,7 +22,8 @@
  *
  *   kind   in a plan, in this order
  *   4F     for each open yard: byte 1 the yard, the amount its fee
- *   41     for each farm: byte 1 its yard, byte 2 the farm, the amount its haul
+ *   41     for each farm: byte 1 its yard, byte 2 the farm, the amount its haul; the yard is the open one of smallest haul, among equals the
+ *          one of lower fee (in a limited plan too), and only then the lower number
  *   54     once: byte 1 the count of open yards, byte 2 n, the amount the total (fees and hauls; in a limited plan hauls alone)
  *   4D     once: the amount the moves made, 0 for pricing
  *

@@ -10,12 +10,14 @@ mod rule;
 mod search;
 mod sheet;
 mod sum;
+mod yards;
 
 use crate::format::least_area;
 use crate::{Answer, Counts, Written};
 use search::{limited_plan_of, open_plan_of};
 use sheet::Hauls;
 use sum::Sum;
+use yards::{ranks, Yards};
 
 /// The counts of yards and farms, or the number of the first question of 1 to 6 that is answered no.
 pub fn read(sheet: &[u8]) -> Answer<Counts> {
@@ -56,7 +58,7 @@ pub fn limited_plan<S: Sum>(sheet: &[u8], k: usize, area: &mut [u8]) -> Answer<W
 
 /// Prices a set that question 8 accepts, in an area that question 9 accepts.
 fn price_of(hauls: &Hauls, set: u32, area: &mut [u8]) -> Written {
-    let yards = near::Yards::of(set);
+    let yards = Yards::of(set, &ranks(&hauls.fees));
     let served = hauls.rows_by_four().iter().flat_map(|rows| near::nearest_of_four(rows, &yards));
     area::write(hauls, &yards, served, &hauls.fees, 0, area)
 }

@@ -1,4 +1,5 @@
-//! The examples of document 01, section "Marked sheets and others", and its questions one by one, put to every implementation.
+//! The examples of document 01, section "Marked sheets and others", and its questions one by one, put to every implementation;
+//! and the example of paper 1 of document 02, on equal hauls.
 use planner::calls::{Calls, PlanCall as Call, ALL};
 use planner::{Answer, Counts, Written};
 
@@ -140,6 +141,20 @@ fn pricing_of_s() {
         check_refused(&s, Call::Price { set }, AMPLE, 8);
         check_refused(&s, Call::Price { set }, 0, 8);
     }
+}
+
+/// Fees 4 and 2, one farm at 3 and 3.
+#[test]
+fn pricing_of_paper_1_byte_for_byte() {
+    #[rustfmt::skip]
+    let bytes = [
+        0x4F, 0, 0, 0, 4, 0, 0, 0,
+        0x4F, 1, 0, 0, 2, 0, 0, 0,
+        0x41, 1, 0, 0, 3, 0, 0, 0,
+        0x54, 2, 1, 0, 9, 0, 0, 0,
+        0x4D, 0, 0, 0, 0, 0, 0, 0,
+    ];
+    check_plan(&sheet(&[4, 2], &[[3, 3]]), Call::Price { set: 0b11 }, &bytes, 0);
 }
 
 #[test]

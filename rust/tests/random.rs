@@ -11,6 +11,7 @@ use planner::samples::{self, Sample};
 
 /// Sheets of each kind in a round.
 const SMALL_ACCEPTED: usize = 700;
+const SMALL_TIED: usize = 300;
 const UNREPAIRED: usize = 200;
 const TIGHT: usize = 60;
 const BROKEN: usize = 100;
@@ -22,12 +23,15 @@ const RANDOM_BYTES: usize = 60;
 const LOOSE: usize = 200;
 const MEDIUM: usize = 40;
 const FULL: usize = 4;
+const FULL_TIED: usize = 4;
 
 /// Rounds compare at least this many calls each on average, and each answer that a call can give occurs so often for it.
 const LEAST_CALLS: u64 = 100_000;
 const LEAST_OF_READING: u64 = 50;
 const LEAST_OF_PLANS: u64 = 300;
 const LEAST_STRETCHES: u64 = 1_000;
+/// Farms in the plans of each call whose yard was chosen among equal hauls by the fee, and as many by the number.
+const LEAST_CHOSEN: u64 = 500;
 
 /// The answers that each call can give, 0 for accepted.
 const ANSWERS: [(Name, &[u8]); 4] = [
@@ -67,6 +71,7 @@ fn sheets(round: u64) -> Vec<(u64, Sample)> {
     ];
     makers.extend([(TIGHT, tight as Maker), (BROKEN, broken)]);
     makers.extend([fault::<1>, fault::<2>, fault::<3>, fault::<4>, fault::<5>].map(|make| (FAULTY, make as _)));
+    makers.extend([(SMALL_TIED, tied as Maker), (FULL_TIED, |random| samples::tied(random, MOST_YARDS, MOST_FARMS))]);
     let made = makers.into_iter().flat_map(|(count, make)| std::iter::repeat_n(make, count));
     let drawn = made.enumerate().map(|(number, make)| {
         let seed = round << 32 | number as u64;
@@ -85,6 +90,12 @@ fn medium(random: &mut Random) -> Sample {
     let (yards, farms) = (random.between(8, MOST_YARDS as u64) as usize, random.between(1, 24) as usize);
     let make = if random.one_in(4) { samples::damaged } else { samples::accepted };
     make(random, yards, farms)
+}
+
+/// More farms than in other small sheets, so that open plans open several yards.
+fn tied(random: &mut Random) -> Sample {
+    let (yards, farms) = (random.between(2, 10) as usize, random.between(1, 24) as usize);
+    samples::tied(random, yards, farms)
 }
 
 fn tight(random: &mut Random) -> Sample {
@@ -112,7 +123,7 @@ fn fault<const QUESTION: u8>(random: &mut Random) -> Sample {
     shaped(random, |random, yards, farms| samples::faulty(random, QUESTION, yards, farms))
 }
 
-/// Every answer occurred often enough, and the farms' stretches too.
+/// Every answer occurred often enough, and choices among equal hauls and the farms' stretches too.
 fn enough(tally: &Tally, rounds: u64) {
     assert!(tally.calls() >= rounds * LEAST_CALLS, "{} calls", tally.calls());
     for (name, answers) in ANSWERS {
@@ -121,6 +132,13 @@ fn enough(tally: &Tally, rounds: u64) {
             let count = tally.count(name, answer);
             assert!(count >= rounds * least, "{name:?} gave answer {answer} {count} times only");
         }
+    }
+    for (name, [_, by_fee, by_number]) in tally.choices() {
+        let least = rounds * LEAST_CHOSEN;
+        assert!(
+            by_fee >= least && by_number >= least,
+            "{name:?}: {by_fee} yards by the fee, {by_number} by the number"
+        );
     }
     assert!(tally.whole_stretches >= rounds * LEAST_STRETCHES, "{} whole stretches", tally.whole_stretches);
     assert!(tally.empty_stretches >= rounds * LEAST_STRETCHES, "{} empty stretches", tally.empty_stretches);

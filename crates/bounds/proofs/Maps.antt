@@ -9,7 +9,7 @@ use Rattle.model.specs.Least.{any, arg}
 use Rattle.model.specs.Instance.{Instance, metric, assigned}
 use Rattle.model.specs.QuickMetric.{route}
 use Rattle.model.proofs.LeastLaws.{Least, arg-least}
-use Rattle.model.proofs.CostLaws.{metric-rule, assigned-least}
+use Rattle.model.proofs.CostLaws.{Assigned, metric-rule, assigned-least}
 use Rattle.model.proofs.QuickMetricLaws.{route-at, route-by}
 use Rattle.bounds.specs.Optimum.{Metric}
 
@@ -20,7 +20,7 @@ metric-of I h = record { rule = λ a b p q la lb lp lq. omega (arith, metric-rul
 pub record Served (I : Instance) (S : ℕ → Bool) : Type 0 where
   pub place : ℕ → ℕ
   pub cost : ℕ → ℕ
-  pub least : (j : ℕ) → Least (I .facilities) S (λ i. I .service i j) (place j)
+  pub least : (j : ℕ) → Assigned I S j (place j)
 
 abbrev pub serve : (I : Instance) (S : ℕ → Bool) → any (I .facilities) S ≡ true → Served I S
 serve I S some =

@@ -1,20 +1,22 @@
 -- Laws of the costs, for callers who need not open them: the nearest facility, sets that agree, metric service costs.
-use Prim.Native.Nat.{ℕ, _+_, _*_, _≤_, _<_}
+use Prim.Native.Nat.{ℕ, _+_, _*_, _≤_, _<_, zero-le}
 use native.Mathlib.Nat.{one-mul, mul-le-mul-left}
 use native.Mathlib.Omega.{arith}
 use mathlib.Core.Path.{_≡_, sym, ap, ap₂, _∙_}
-use mathlib.Core.Bool.{Bool, true, false, not, and-false}
-use borrow.Author.Tests.{leb-true, leb-false, le-leb, lt-leb}
+use mathlib.Core.Bool.{Bool, true, false, not, _&&_, and-false}
+use borrow.Author.Tests.{eq-eqb, eqb-true, leb-true, leb-false, le-leb, lt-leb}
 use lib.Dec.{eqb}
 use Rattle.model.specs.Loops.{on, sum}
-use Rattle.model.specs.Least.{any, least}
+use Rattle.model.specs.Least.{any, least, arg}
 use Rattle.model.specs.Sets.{plus, minus, trade}
-use Rattle.model.specs.Instance.{Instance, fourPoint, fourPointQ, fourPointPQ, fourPointBPQ, metric, Breaks, nearest, assigned, openingCost, serviceCost, totalCost}
-use Rattle.model.proofs.Bools.{same-test}
+use Rattle.model.specs.Instance.{Instance, fourPoint, fourPointQ, fourPointPQ, fourPointBPQ, metric, Breaks, nearest, atNearest, assigned, openingCost, serviceCost, totalCost}
+use Rattle.model.proofs.Bools.{and-left, and-right, and-both, same-test}
 use Rattle.model.proofs.LoopLaws.{all-at, all-from, all-fails, all-stops}
 use Rattle.model.proofs.SumLaws.{sum-mono, sum-cong}
 use Rattle.model.proofs.CountLaws.{sum-plus, sum-minus}
-use Rattle.model.proofs.LeastLaws.{Least, arg-least, least-at, least-le, least-cong, least-values, least-scaled}
+use Rattle.model.proofs.LeastLaws.{Least, any-of, none-of, arg-least, arg-cong, arg-le, arg-values, least-at, least-le, least-cong, least-values, least-scaled}
+use Rattle.model.proofs.LeastThenLaws.{LeastThen, then-is}
+use Rattle.model.proofs.GapLaws.{least-gap, arg-gap}
 
 module _ (I : Instance) where
   open Instance I using (facilities as m, clients as n, opening, service, weight)
@@ -71,14 +73,67 @@ module _ (I : Instance) where
   unfolding nearest
   nearest-le S i j l e = least-le m i S (λ i. service i j) l e
 
-  -- the assigned facility is of S, its cost is the nearest, and those before it cost more
-  pub assigned-least : (S : ℕ → Bool) (j : ℕ) → any m S ≡ true → Least m S (λ i. service i j) (assigned I S j)
-  unfolding assigned
-  assigned-least S j e = arg-least m S (λ i. service i j) e
+  -- ---- the assigned facility
 
+  at-nearest : (S : ℕ → Bool) (j i : ℕ) → S i ≡ true → service i j ≡ nearest I S j → atNearest I S j i ≡ true
+  unfolding atNearest
+  at-nearest S j i e q = and-both e (eq-eqb (service i j) (nearest I S j) q)
+
+  at-nearest-of : (S : ℕ → Bool) (j i : ℕ) → atNearest I S j i ≡ true → (S i ≡ true) × (service i j ≡ nearest I S j)
+  unfolding atNearest
+  at-nearest-of S j i h =
+      let same = eqb (service i j) (nearest I S j) in
+      (and-left (S i) same h, eqb-true (service i j) (nearest I S j) (and-right (S i) same h))
+
+  some-nearest : (S : ℕ → Bool) (j : ℕ) → any m S ≡ true → any m (atNearest I S j) ≡ true
+  unfolding nearest
+  some-nearest S j e =
+      let a = arg m S (λ i. service i j) in
+      let r = arg-least m S (λ i. service i j) e in
+      any-of m a (atNearest I S j) (r .below) (at-nearest S j a (r .is-in) (sym (least-at m S (λ i. service i j) e)))
+
+  cheapest : (S : ℕ → Bool) (j : ℕ) → any m S ≡ true → Least m (atNearest I S j) opening (assigned I S j)
+  unfolding assigned
+  cheapest S j e = arg-least m (atNearest I S j) opening (some-nearest S j e)
+
+  -- its cost is the nearest
   pub assigned-nearest : (S : ℕ → Bool) (j : ℕ) → any m S ≡ true → service (assigned I S j) j ≡ nearest I S j
-  unfolding nearest assigned
-  assigned-nearest S j e = sym (least-at m S (λ i. service i j) e)
+  assigned-nearest S j e = at-nearest-of S j (assigned I S j) (cheapest S j e .is-in) .1
+
+  -- A facility of S: none of S is nearer, of those as near none costs less to open, and of those that cost as much to open none has a
+  -- lower number.
+  abbrev pub Assigned : (ℕ → Bool) → ℕ → ℕ → Type 0
+  Assigned S j a = LeastThen m S (λ i. service i j) opening a
+
+  -- the assigned facility is so
+  pub assigned-least : (S : ℕ → Bool) (j : ℕ) → any m S ≡ true → Assigned S j (assigned I S j)
+  assigned-least S j e =
+      let r = cheapest S j e in
+      let near = assigned-nearest S j e in
+      record {
+        below = r .below;
+        is-in = at-nearest-of S j (assigned I S j) (r .is-in) .0;
+        lowest = λ k l f. omega (arith, nearest-le S k j l f);
+        cheapest = λ k l f q. r .lowest k l (at-nearest S j k f (q ∙ near));
+        first = λ k l f q. r .first k l (at-nearest S j k f (q ∙ near));
+      }
+
+  -- and no other
+  pub assigned-is : (S : ℕ → Bool) (j a : ℕ) → Assigned S j a → assigned I S j ≡ a
+  assigned-is S j a r =
+      then-is S (λ i. service i j) opening m (assigned I S j) a (assigned-least S j (any-of m a S (r .below) (r .is-in))) r
+
+  pub assigned-le : (S : ℕ → Bool) (j : ℕ) → assigned I S j ≤ m
+  unfolding assigned
+  assigned-le S j = arg-le m (atNearest I S j) opening
+
+  -- where S has no facility
+  pub assigned-none : (S : ℕ → Bool) (j : ℕ) → any m S ≡ false → (assigned I S j ≡ 0) × (nearest I S j ≡ 0)
+  unfolding assigned atNearest nearest arg least
+  assigned-none S j none = (
+    arg-gap (atNearest I S j) 0 m zero-le (λ i a l. ap (λ (b : Bool). b && eqb (service i j) (nearest I S j)) (none-of m i S none l)) opening,
+    least-gap S 0 m zero-le (λ i a l. none-of m i S none l) (λ i. service i j),
+  )
 
   -- ---- any assignment of clients to facilities of S costs at least as much as the nearest
 
@@ -150,6 +205,23 @@ same-metric I J same-m same-n agree =
     same-test
     (also-metric I J (omega arith) (omega arith) (λ a p la lp. agree a p (omega arith) (omega arith)))
     (also-metric J I (omega arith) (omega arith) (λ a p la lp. sym (agree a p la lp)))
+
+-- ---- clients with the same service costs, where opening costs are the same, have the same nearest and the same assigned facility
+
+module _ (I J : Instance) (S : ℕ → Bool) (j k : ℕ) (same-m : I .facilities ≡ J .facilities)
+    (costs : (i : ℕ) → i < I .facilities → I .service i j ≡ J .service i k) where
+  pub same-nearest : nearest I S j ≡ nearest J S k
+  unfolding nearest
+  same-nearest =
+      least-values S (λ i. I .service i j) (λ i. J .service i k) (I .facilities) costs ∙ ap (λ m. least m S (λ i. J .service i k)) same-m
+
+  pub same-assigned : ((i : ℕ) → i < I .facilities → I .opening i ≡ J .opening i) → assigned I S j ≡ assigned J S k
+  unfolding assigned atNearest
+  same-assigned fees =
+      arg-cong (I .facilities) (atNearest I S j) (atNearest J S k) (I .opening)
+      (λ i l. ap₂ (λ (x y : ℕ). S i && eqb x y) (costs i l) same-nearest)
+      ∙ arg-values (atNearest J S k) (I .opening) (J .opening) (I .facilities) fees
+      ∙ ap (λ m. arg m (atNearest J S k) (J .opening)) same-m
 
 -- ---- instances that agree on opening costs, and on service costs times weight, have the same costs
 

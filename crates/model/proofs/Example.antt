@@ -7,7 +7,7 @@ use lib.Dec.{eqb}
 use Rattle.model.specs.Loops.{allBelow, sum, join}
 use Rattle.model.specs.Least.{any, least, arg}
 use Rattle.model.specs.Sets.{member, with, without}
-use Rattle.model.specs.Instance.{Instance, metric, fourPointBPQ, fourPointPQ, fourPointQ, fourPoint, nearest, assigned, openingCost, serviceCost, totalCost}
+use Rattle.model.specs.Instance.{Instance, metric, fourPointBPQ, fourPointPQ, fourPointQ, fourPoint, nearest, atNearest, assigned, openingCost, serviceCost, totalCost}
 use Rattle.model.specs.QuickMetric.{greatest, route, spread, quickPair, quickMetric}
 use Rattle.model.specs.Neighbours.{addAt, adds, dropAt, drops, swapAt, swapsOut, swaps, addDropSwap}
 use Rattle.model.specs.Search.{reached, better, best, next, descend, search}
@@ -39,10 +39,20 @@ example-quick : (quickMetric example ≡ true) × (quickMetric (two-yards 3) ≡
 unfolding example quickMetric quickPair route spread greatest least any allBelow
 example-quick = (refl, refl, refl)
 
--- client 1 is as near to 0 as to 2, and is assigned to 0
+-- client 1 is as near to 0 as to 2, which costs more to open, and is assigned to 0
 example-tie : assigned example (member 5) 1 ≡ 0
-unfolding example member assigned arg any
+unfolding example member assigned atNearest nearest least arg any
 example-tie = refl
+
+-- "Two yards with fees 4 and 2 and one farm at 3 and 3: pricing both gives yard 1" (document 02, paper 1). With fees 2 and 2 it gives yard
+-- 0, and at 3 and 4 yard 0 whatever the fees are.
+two-fees : ℕ → ℕ → ℕ → ℕ → Instance
+two-fees a b x y = record { facilities = 2; clients = 1; opening = row a b 0; service = λ i j. row x y 0 i; weight = λ j. 1 }
+
+example-cheaper : (assigned (two-fees 4 2 3 3) (member 3) 0 ≡ 1) × (assigned (two-fees 2 2 3 3) (member 3) 0 ≡ 0)
+    × (assigned (two-fees 4 2 3 4) (member 3) 0 ≡ 0)
+unfolding two-fees member assigned atNearest nearest least arg any
+example-cheaper = (refl, refl, refl)
 
 -- "It starts at {1} with 13, goes to {1, 2} with 11; then adding 0 and swapping 1 for 0 both give 10, and the add is earlier."
 example-start : openStart example ≡ 2

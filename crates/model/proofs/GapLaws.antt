@@ -5,7 +5,7 @@ use native.Mathlib.Omega.{arith}
 use mathlib.Core.Path.{_≡_, ap, _∙_}
 use mathlib.Core.Logic.{inl, inr}
 use mathlib.Core.Bool.{Bool, false}
-use Rattle.model.specs.Least.{any, least, arg}
+use Rattle.model.specs.Least.{least, arg}
 
 -- no number from i up to k is in S
 abbrev pub NoneFrom : (ℕ → Bool) → ℕ → ℕ → Type 0
@@ -24,10 +24,6 @@ gap S f same i (suc k) h none =
     ]
 
 module _ (S : ℕ → Bool) (i k : ℕ) (h : i ≤ k) (none : NoneFrom S i k) where
-  pub any-gap : any k S ≡ any i S
-  unfolding any
-  any-gap = gap S (λ j. any j S) (λ j e. rw e) i k h none
-
   pub least-gap : (v : ℕ → ℕ) → least k S v ≡ least i S v
   unfolding least
   least-gap v = gap S (λ j. least j S v) (λ j e. rw e) i k h none

@@ -8,6 +8,7 @@ pub mod CountLaws
 pub mod ListingLaws
 pub mod LeastLaws
 pub mod GapLaws
+pub mod LeastThenLaws
 pub mod TwoLeastLaws
 pub mod PackedLaws
 pub mod CostLaws

@@ -1,7 +1,7 @@
 -- An instance of uncapacitated facility location (document 000, section 3) and the costs of a set of facilities.
 use Prim.Native.Nat.{ℕ, _+_, _*_, _<_}
-use mathlib.Core.Bool.{Bool}
-use lib.Dec.{leb}
+use mathlib.Core.Bool.{Bool, _&&_}
+use lib.Dec.{eqb, leb}
 use Rattle.model.specs.Loops.{on, allBelow, sum}
 use Rattle.model.specs.Least.{least, arg}
 
@@ -51,9 +51,13 @@ pub record Breaks (I : Instance) : Type 0 where
 unfoldable pub nearest : Instance → (ℕ → Bool) → ℕ → ℕ
 nearest I S j = least (I .facilities) S (λ i. I .service i j)
 
--- the facility of S with that cost, the lowest number among equals (document 01, "Price, start, moves")
+-- is facility i one of those of S at that cost
+unfoldable pub atNearest : Instance → (ℕ → Bool) → ℕ → ℕ → Bool
+atNearest I S j i = S i && eqb (I .service i j) (nearest I S j)
+
+-- Of these the one of least opening cost, "and only then" the lowest number (document 02, paper 1): it serves client j.
 unfoldable pub assigned : Instance → (ℕ → Bool) → ℕ → ℕ
-assigned I S j = arg (I .facilities) S (λ i. I .service i j)
+assigned I S j = arg (I .facilities) (atNearest I S j) (I .opening)
 
 -- the sum of the opening costs of S: document 01's fees
 unfoldable pub openingCost : Instance → (ℕ → Bool) → ℕ

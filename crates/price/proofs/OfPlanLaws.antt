@@ -1,7 +1,8 @@
 -- What is promised of the set in the area: it follows from what holds of the plan's own set, and that follows from it; and pricing
--- keeps the set given.
+-- keeps the set given, and sends each farm to its nearest yard of it.
 use Prim.Native.Nat.{ℕ, _^_, _≤_, _<_}
 use mathlib.Core.Path.{_≡_, refl, sym, ap, ap₂, subst, _∙_}
+use mathlib.Core.Bool.{true}
 use mathlib.Core.List.{List}
 use borrow.Author.Tests.{ltb-true}
 use lib.ListN.{length}
@@ -13,15 +14,16 @@ use Rattle.record.specs.Records.{splice}
 use Rattle.questions.specs.Bounds.{mostYards}
 use Rattle.questions.specs.Answers.{Answer, accepted}
 use Rattle.questions.specs.Sheet.{yards, instanceOf}
-use Rattle.questions.specs.Reading.{reading}
+use Rattle.questions.specs.Reading.{counts, reading}
 use Rattle.questions.proofs.ReadingLaws.{same-result, not-both, asked, read-first}
-use Rattle.questions.proofs.AcceptedLaws.{accepts, door, facilities-are}
+use Rattle.questions.proofs.AcceptedLaws.{WithinBounds, accepts, door, facilities-are}
 use Rattle.price.specs.Plan.{planBytes, question9, planSet}
 use Rattle.price.specs.Pricing.{Result, Plan, plan, plannedAnswer, answer, areaAfter, OfPlan, question8, pricing, SetKept}
 use Rattle.price.specs.declared.Planned.{Planned}
 use Rattle.price.specs.declared.Planned.the-variants.{Written, Refused}
-use Rattle.price.proofs.PricingLaws.{answered}
+use Rattle.price.proofs.PricingLaws.{answered, marked}
 use Rattle.price.proofs.PlanSetLaws.{plan-set}
+use Rattle.price.proofs.PlanFarmLaws.{FarmsSent, farms-sent}
 
 -- p is the plan of this set of the instance's facilities, which are 32 at most
 pub record PlanOf (set : ℕ) (p : Plan) : Type 0 where
@@ -69,24 +71,50 @@ module _ (outcome : Answer Plan) (r : Planned) (area next : List ℕ)
 -- ---- pricing
 
 module _ (s : List ℕ) (set room : ℕ) (p : Plan) (h : pricing s set room ≡ accepted p) where
-  -- the plan that pricing makes is that of the set given
-  pub priced-set : PlanOf set p
-  unfolding pricing question8
-  priced-set =
+  -- a plan is made where the questions are answered yes
+  priced-when : (m : ℕ) × (n : ℕ) × (reading s ≡ accepted (counts m n)) × (question8 m set ≡ true)
+      × (p ≡ plan (instanceOf s) set (totalCost (instanceOf s) (member set)) 0)
+  unfolding pricing
+  priced-when =
       let r = read-first (reading s) _ p h in
       let c = r .0 in
       let q8 = asked (question8 (c .yards) set) 8 _ p (r .2) in
       let q9 = asked (question9 (c .yards) (c .farms) room) 9 _ p (q8 .1) in
-      let w = door s (c .yards) (c .farms) (r .1) in
-      let as-many : instanceOf s .facilities ≡ c .yards = facilities-are s ∙ accepts s (c .yards) (c .farms) (r .1) .has .yards-are in
+      (c .yards, c .farms, r .1, q8 .0, sym (same-result (q9 .1)))
+
+  within : WithinBounds (instanceOf s)
+  within = let r = priced-when in door s (r .0) (r .1) (r .2)
+
+  as-many : instanceOf s .facilities ≡ priced-when .0
+  as-many = let r = priced-when in facilities-are s ∙ accepts s (r .0) (r .1) (r .2) .has .yards-are
+
+  -- it is that of the set given
+  pub priced-set : PlanOf set p
+  unfolding question8
+  priced-set =
+      let r = priced-when in
       record {
         instance = instanceOf s;
         total = totalCost (instanceOf s) (member set);
         moves = 0;
-        is = sym (same-result (q9 .1));
-        few = w .few-facilities;
-        small = rw as-many (ltb-true set (2 ^ c .yards) (and-right (leb 1 set) _ (q8 .0)));
+        is = r .4;
+        few = within .few-facilities;
+        small = rw as-many (ltb-true set (2 ^ r .0) (and-right (leb 1 set) _ (r .3)));
       }
+
+  -- and sends each farm to its nearest yard of the set
+  priced-farms : (area : List ℕ) → FarmsSent s (areaAfter (pricing s set room) area) set
+  unfolding areaAfter
+  priced-farms area =
+      let r = priced-when in
+      farms-sent s within set _ _ (rw as-many (marked (r .0) set (r .3) .0)) area _ (ap (λ o. areaAfter o area) (h ∙ ap accepted (r .4)))
+
+-- where pricing sends the farms, from its two equations
+pub pricing-sends : (s : List ℕ) (set : ℕ) (r : Planned) (area next : List ℕ)
+    → plannedAnswer r ≡ answer (pricing s set (length area)) → next ≡ areaAfter (pricing s set (length area)) area → OfPlan r next (FarmsSent s next)
+pricing-sends s set r area next says leaves =
+    of-plan (pricing s set (length area)) r area next says leaves (FarmsSent s next)
+    (λ p e. (set, priced-set s set (length area) p e, rw leaves (priced-farms s set (length area) p e area)))
 
 -- all that pricing promises, from its two equations
 pub pricing-promises : (s : List ℕ) (set : ℕ) (r : Planned) (area next : List ℕ)

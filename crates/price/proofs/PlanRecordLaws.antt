@@ -78,7 +78,7 @@ module _ (s : List ℕ) (m n set : ℕ) where
       opened-record (instanceBy s m n) set i e ∙ ap (λ (x : Record). bytesOf (recordOf openKind i 0 0 (x .amount))) (sym on-sheet)
 
   -- a farm's record has the yard and the haul that are nearest on the farm's stretch
-  pub farm-on : Shape s m n → (p : ℕ) → p < n → (hauls : List ℕ) (r : Nearest) → hauls ≡ stretch s m p → r ≡ nearestOn hauls set
+  pub farm-on : Shape s m n → (p : ℕ) → p < n → (hauls : List ℕ) (r : Nearest) → hauls ≡ stretch s m p → r ≡ nearestOn s hauls set
       → (r .haul ≡ nearest (instanceBy s m n) (member set) p)
       × (farmRecord (instanceBy s m n) set p ≡ bytesOf (recordOf farmKind (r .yard) p 0 (r .haul))) × (r .yard ≤ mostYards)
   unfolding farmRecord

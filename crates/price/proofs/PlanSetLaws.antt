@@ -6,8 +6,7 @@ use mathlib.Core.Path.{_≡_, refl, ap, ap₂, subst, _∙_}
 use mathlib.Core.Bool.{Bool, false, _&&_, _||_, or-false}
 use mathlib.Core.List.{List, [], _++_}
 use lib.Dec.{eqb}
-use lib.ListN.{length, getD, drop, length-append, List·getD-append}
-use lib.Seq.{getD-append-add}
+use lib.ListN.{length, drop, length-append}
 use lib.Pow.{pow-mono}
 use Rattle.model.specs.Loops.{on, join}
 use Rattle.model.specs.Least.{any}
@@ -19,6 +18,7 @@ use Rattle.model.proofs.LeastLaws.{any-cong, any-add, any-none, any-one}
 use Rattle.model.proofs.SetLaws.{member-below, member-sum}
 use Rattle.record.specs.Records.{recordAt, bytesOf, splice}
 use Rattle.record.specs.declared.Record.{Record}
+use Rattle.record.proofs.RecordLaws.{record-before, record-behind}
 use Rattle.record.proofs.SpliceLaws.{length-bytes, splice-front}
 use Rattle.questions.specs.Bounds.{mostYards}
 use Rattle.price.specs.Plan.{openRecord, farmRecord, totalRecord, movesRecord, planBytes, opensAt, planSet, openKind}
@@ -33,18 +33,12 @@ module _ (yard : ℕ) where
     reads : any records (opensAt bytes yard) ≡ shown
 
   opens-before : (xs ys : List ℕ) (i : ℕ) → 8 * i + 8 ≤ length xs → opensAt (xs ++ ys) yard i ≡ opensAt xs yard i
-  unfolding opensAt recordAt
-  opens-before xs ys i room =
-      rw (List·getD-append xs ys 0 (8 * i) (omega arith), List·getD-append xs ys 0 (8 * i + 1) (omega arith))
+  unfolding opensAt
+  opens-before xs ys i room = ap (λ (r : Record). eqb (r .kind) openKind && eqb (r .yard) yard) (record-before xs ys i room)
 
   opens-behind : (xs ys : List ℕ) (k i : ℕ) → length xs ≡ 8 * k → opensAt (xs ++ ys) yard (k + i) ≡ opensAt ys yard i
-  unfolding opensAt recordAt
-  opens-behind xs ys k i e =
-      let kind-at : 8 * (k + i) ≡ length xs + 8 * i = omega arith in
-      let yard-at : 8 * (k + i) + 1 ≡ length xs + (8 * i + 1) = omega arith in
-      ap₂ (λ (a b : ℕ). eqb a openKind && eqb b yard)
-      (ap (λ (n : ℕ). getD (xs ++ ys) n 0) kind-at ∙ getD-append-add xs ys (8 * i) 0)
-      (ap (λ (n : ℕ). getD (xs ++ ys) n 0) yard-at ∙ getD-append-add xs ys (8 * i + 1) 0)
+  unfolding opensAt
+  opens-behind xs ys k i e = ap (λ (r : Record). eqb (r .kind) openKind && eqb (r .yard) yard) (record-behind xs ys k i e)
 
   -- the same is read with anything behind the bytes
   reads-before : (xs ys : List ℕ) (a : Bool) (x : Shows xs a) → any (x .records) (opensAt (xs ++ ys) yard) ≡ a

@@ -1,10 +1,10 @@
--- The nearest open yard: the smallest haul, the lowest number among equals (document 01, "Price, start, moves").
-use Prim.Native.Nat.{ℕ, _^_}
-use mathlib.Core.Bool.{Bool, true, cond, not, _&&_, _||_}
+-- The nearest open yard of a farm (document 02, paper 1): the smallest haul, among equals the lower fee, and only then the lower number.
+use Prim.Native.Nat.{ℕ, min}
+use mathlib.Core.Bool.{Bool}
 use mathlib.Core.List.{List}
-use lib.Dec.{ltb}
-use Rattle.model.specs.Least.{any, least, arg}
+use Rattle.model.specs.Least.{any}
 use Rattle.model.specs.Sets.{member}
+use Rattle.model.specs.Instance.{Instance, nearest, assigned}
 use Rattle.record.specs.Records.{recordAt}
 use Rattle.questions.specs.Sheet.{records}
 use Rattle.price.specs.declared.nearest.Nearest.{Nearest}
@@ -12,23 +12,26 @@ use Rattle.price.specs.declared.nearest.Nearest.{Nearest}
 abbrev pub near : Bool → ℕ → ℕ → Nearest
 near found yard haul = record { found = found; yard = yard; haul = haul }
 
--- the yard of S below m of smallest haul, and that haul; both 0, and not found, where S has none there
-unfoldable pub nearestBelow : ℕ → (ℕ → Bool) → (ℕ → ℕ) → Nearest
-nearestBelow m S haul = near (any m S) (arg m S haul) (least m S haul)
-
--- a yard, where it is open and nearer than b, else b
-unfoldable pub closer : Bool → ℕ → ℕ → Nearest → Nearest
-closer isOpen yard haul b = cond (isOpen && (not (b .found) || ltb haul (b .haul))) (near true yard haul) b
-
--- A haul and its yard stand in one number, the haul times this and the yard, so that the lesser of two has the smaller haul or, among equals, the
--- lower yard.
-abbrev pub haulStep : ℕ
-haulStep = 2 ^ 32
-
 -- the amount of record i
 unfoldable pub amountAt : List ℕ → ℕ → ℕ
 amountAt bytes i = recordAt bytes i .amount
 
--- the nearest yard of the set on a farm's stretch of the sheet
-unfoldable pub nearestOn : List ℕ → ℕ → Nearest
-nearestOn stretch set = nearestBelow (records stretch) (member set) (amountAt stretch)
+-- the yards that have a record in both
+abbrev pub yardsOn : List ℕ → List ℕ → ℕ
+yardsOn fees hauls = min (records fees) (records hauls)
+
+-- a farm by itself: its hauls on a stretch of the sheet, the yards' records for their fees
+unfoldable pub oneFarm : List ℕ → List ℕ → Instance
+oneFarm fees hauls =
+    record {
+      facilities = yardsOn fees hauls;
+      clients = 1;
+      opening = amountAt fees;
+      service = λ i j. amountAt hauls i;
+      weight = λ j. 1;
+    }
+
+-- the yard of the set that the farm is assigned to, and the haul there; both 0, and not found, where the set has none of these yards
+unfoldable pub nearestOn : List ℕ → List ℕ → ℕ → Nearest
+nearestOn fees hauls set =
+    near (any (yardsOn fees hauls) (member set)) (assigned (oneFarm fees hauls) (member set) 0) (nearest (oneFarm fees hauls) (member set) 0)

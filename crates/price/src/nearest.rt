@@ -1,17 +1,14 @@
-// The nearest open yard of a farm: the smallest haul, the lowest number among equals.
+// The nearest open yard of a farm: the smallest haul, among equals the lower fee, and only then the lower number.
 ghost use mathlib.Core.Path.{_≡_};
-ghost use Prim.Native.Nat.{_+_, _*_, _≤_, min};
-ghost use lib.ListN.{length};
+ghost use Prim.Native.Nat.{_<_, min};
 ghost use Rattle.sets.specs.Members.{risingBelow};
-ghost use Rattle.questions.specs.Sheet.{records};
-ghost use Rattle.price.specs.Nearest.{haulStep, amountAt, nearestOn};
+ghost use Rattle.record.specs.Records.{amountEnd};
+ghost use Rattle.price.specs.Nearest.{amountAt, yardsOn, nearestOn};
+ghost use Rattle.price.specs.Choices.{choiceOf, nearer};
 use record::Record;
 
-// A haul and its yard stand in one number: the haul times this, and the yard.
+// A haul and a fee stand in one number: the haul times this, and the fee.
 const HAUL_STEP: u64 = 4294967296;
-
-// No such number is above this.
-const HIGHEST: u64 = 18446744073709551615;
 
 pub struct Nearest {
     pub found: bool,
@@ -19,20 +16,28 @@ pub struct Nearest {
     pub haul: u32,
 }
 
-// The nearest yard of the set on a farm's stretch of the sheet.
-pub fn nearest_yard(hauls: &[u8], set: u32) -> Nearest
-    ensures { λ r. ⌜ r ≡ nearestOn (now (hauls .entry)) set ⌝ }
+// A yard with its key, the haul and the fee in one number: of two keys the lesser has the smaller haul or, among equals, the lower
+// fee.
+struct Choice {
+    yard: u8,
+    key: u64,
+}
+
+// The nearest yard of the set on a farm's stretch of the sheet, by the fees in the yards' records. The sheet itself will do for
+// these: its first records are the yards'. The yards are those that have a record in both.
+pub fn nearest_yard(fees: &[u8], hauls: &[u8], set: u32) -> Nearest
+    ensures { λ r. ⌜ r ≡ nearestOn (now (fees .entry)) (now (hauls .entry)) set ⌝ }
 {
-    let open = sets::members_below(set, hauls.len() / Record::LEN);
+    let open = sets::members_below(set, lesser(fees.len(), hauls.len()) / Record::LEN);
     let list = open.list;
     let count = open.count;
-    nearest_of(hauls, set, &list[..count])
+    nearest_of(fees, hauls, set, &list[..count])
 }
 
 // The same for a caller that has the yards of the set listed.
-pub(crate) fn nearest_of(hauls: &[u8], set: u32, yards: &[u8]) -> Nearest
-    requires { ⌜ now yards ≡ risingBelow (min (records (now hauls)) 32) set ⌝ }
-    ensures { λ r. ⌜ r ≡ nearestOn (now (hauls .entry)) set ⌝ }
+pub(crate) fn nearest_of(fees: &[u8], hauls: &[u8], set: u32, yards: &[u8]) -> Nearest
+    requires { ⌜ now yards ≡ risingBelow (min (yardsOn (now fees) (now hauls)) 32) set ⌝ }
+    ensures { λ r. ⌜ r ≡ nearestOn (now (fees .entry)) (now (hauls .entry)) set ⌝ }
 {
     if yards.len() == 0 {
         return Nearest {
@@ -41,30 +46,41 @@ pub(crate) fn nearest_of(hauls: &[u8], set: u32, yards: &[u8]) -> Nearest
             haul: 0,
         };
     }
-    let mut least = HIGHEST;
-    let mut t = 0;
+    let mut best = choice_of(fees, hauls, yards[0]);
+    let mut t = 1;
     while t < yards.len() {
-        least = lesser(haul_to(hauls, yards[t]), least);
+        best = nearer_of(best, choice_of(fees, hauls, yards[t]));
         t += 1;
     }
     Nearest {
         found: true,
-        yard: (least % HAUL_STEP) as usize,
-        haul: (least / HAUL_STEP) as u32,
+        yard: best.yard as usize,
+        haul: (best.key / HAUL_STEP) as u32,
     }
 }
 
-// A yard's haul and its number in one: of two yards the nearer has the lesser, or the lower number where the hauls are equal.
-fn haul_to(hauls: &[u8], yard: u8) -> u64
-    requires { ⌜ 8 * yard + 8 ≤ length (now hauls) ⌝ }
-    ensures { λ r. ⌜ r ≡ haulStep * amountAt (now (hauls .entry)) yard + yard ⌝ }
+fn choice_of(fees: &[u8], hauls: &[u8], yard: u8) -> Choice
+    requires { ⌜ yard < yardsOn (now fees) (now hauls) ⌝ }
+    ensures choice { λ r. ⌜ r ≡ choiceOf (now (fees .entry)) (now (hauls .entry)) yard ⌝ }
+    ensures fee { λ r. ⌜ amountAt (now (fees .entry)) yard < amountEnd ⌝ }
 {
     let from = Record::LEN * (yard as usize);
-    let record = Record::at(&hauls[from..from + Record::LEN], 0);
-    HAUL_STEP * (record.amount as u64) + (yard as u64)
+    let haul = Record::at(&hauls[from..from + Record::LEN], 0).amount;
+    let fee = Record::at(&fees[from..from + Record::LEN], 0).amount;
+    Choice {
+        yard,
+        key: HAUL_STEP * (haul as u64) + (fee as u64),
+    }
 }
 
-fn lesser(a: u64, b: u64) -> u64
+// The nearer of two, the first among equals.
+fn nearer_of(a: Choice, b: Choice) -> Choice
+    ensures { λ r. ⌜ r ≡ nearer a b ⌝ }
+{
+    if b.key < a.key { b } else { a }
+}
+
+fn lesser(a: usize, b: usize) -> usize
     ensures { λ r. ⌜ r ≡ min a b ⌝ }
 {
     if a < b { a } else { b }

@@ -140,7 +140,7 @@ fn put_farm(
     ensures area { λ r. ⌜ now (area .exit) ≡ splice (now (area .entry)) at (farmRecord (instanceBy (now (sheet .entry)) m n) set farm) ⌝ }
 {
     let hauls = sheet::farm_stretch(sheet, m, farm);
-    let near = nearest_of(hauls, set, yards);
+    let near = nearest_of(sheet, hauls, set, yards);
     let record = Record::new(KIND_FARM, near.yard as u8, farm as u8, 0, near.haul);
     record.put(area, at);
     near.haul

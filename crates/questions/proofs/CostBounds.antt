@@ -12,7 +12,7 @@ use Rattle.questions.specs.Bounds.{mostYards, mostFarms, mostFee, mostHa
 use Rattle.questions.proofs.AcceptedLaws.{WithinBounds}
 
 module _ (I : Instance) (w : WithinBounds I) (S : ℕ → Bool) where
-  nearest-within : (j : ℕ) → j < I .clients → nearest I S j ≤ mostHaul
+  pub nearest-within : (j : ℕ) → j < I .clients → nearest I S j ≤ mostHaul
   unfolding nearest
   nearest-within j l = least-bound (I .facilities) mostHaul S (λ i. I .service i j) (λ i k. w .service-within i j k l)
 

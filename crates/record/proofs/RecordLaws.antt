@@ -1,13 +1,14 @@
--- Laws of single records: reading one that the bytes hold whole or do not, writing one that fits or does not.
-use Prim.Native.Nat.{ℕ, suc, _+_, _-_, _*_, _≤_, _<_}
+-- Laws of single records: reading one that the bytes hold whole or do not, one among other bytes, one that was written; writing one
+-- that fits or does not.
+use Prim.Native.Nat.{ℕ, suc, _+_, _-_, _*_, _/_, _%_, _≤_, _<_}
 use native.Mathlib.Nat.{add-zero}
 use native.Mathlib.Omega.{arith}
 use mathlib.Core.Path.{_≡_, refl, sym, ap, _∙_}
-use mathlib.Core.List.{List, [], _∷_}
+use mathlib.Core.List.{List, [], _∷_, _++_}
 use borrow.Author.Tests.{le-leb, lt-leb}
-use lib.ListN.{length, getD, take, drop, set, length-drop}
-use lib.Seq.{getD-take, getD-drop, length-take-le, sets-eq}
-use Rattle.record.specs.Records.{wordBytes, recordOf, recordAt, wholeRecordAt, bytesOf, splice, putAt}
+use lib.ListN.{length, getD, take, drop, set, length-drop, List·getD-append}
+use lib.Seq.{getD-take, getD-drop, getD-append-add, length-take-le, sets-eq}
+use Rattle.record.specs.Records.{word, wordBytes, recordOf, recordAt, wholeRecordAt, bytesOf, splice, putAt, amountEnd}
 use Rattle.record.specs.declared.Record.{Record}
 use Rattle.record.proofs.SpliceLaws.{splice-turn}
 
@@ -49,6 +50,51 @@ eight-bytes s part i room cut =
     let e : part ≡ take 8 (drop (8 * i) s) = cut ∙ ap (λ (n : ℕ). take n (drop (8 * i) s)) eight in
     let size : length part ≡ 8 = ap length e ∙ length-take-le 8 (drop (8 * i) s) (omega (arith, length-drop (8 * i) s)) in
     whole part 0 (omega arith) ∙ ap (λ (x : List ℕ). recordAt x 0) e ∙ part-record s i 1 0 (omega arith) ∙ ap (recordAt s) (add-zero i)
+
+-- ---- a record of bytes that stand before others, and of bytes behind k whole records
+
+pub record-before : (xs ys : List ℕ) (i : ℕ) → 8 * i + 8 ≤ length xs → recordAt (xs ++ ys) i ≡ recordAt xs i
+unfolding recordAt
+record-before xs ys i room =
+    rw (byte (8 * i) (omega arith), at 1 (omega arith), at 2 (omega arith), at 3 (omega arith), at 4 (omega arith), at 5 (omega arith), at 6 (omega arith), at 7 (omega arith))
+  where
+    byte : (k : ℕ) → k < length xs → getD (xs ++ ys) k 0 ≡ getD xs k 0
+    byte k l = List·getD-append xs ys 0 k l
+
+    at : (b : ℕ) → b < 8 → getD (xs ++ ys) (8 * i + b) 0 ≡ getD xs (8 * i + b) 0
+    at b l = byte (8 * i + b) (omega arith)
+
+pub record-behind : (xs ys : List ℕ) (k i : ℕ) → length xs ≡ 8 * k → recordAt (xs ++ ys) (k + i) ≡ recordAt ys i
+unfolding recordAt
+record-behind xs ys k i e =
+    rw (byte (8 * (k + i)) (8 * i) (omega arith), at 1, at 2, at 3, at 4, at 5, at 6, at 7)
+  where
+    byte : (x y : ℕ) → x ≡ length xs + y → getD (xs ++ ys) x 0 ≡ getD ys y 0
+    byte x y q = ap (λ (n : ℕ). getD (xs ++ ys) n 0) q ∙ getD-append-add xs ys y 0
+
+    at : (b : ℕ) → getD (xs ++ ys) (8 * (k + i) + b) 0 ≡ getD ys (8 * i + b) 0
+    at b = byte (8 * (k + i) + b) (8 * i + b) (omega arith)
+
+-- ---- a record that was written is read again
+
+digits : (n a b c w x y z : ℕ) → n ≡ w + 256 * a → a ≡ x + 256 * b → b ≡ y + 256 * c → c ≡ z → word w x y z ≡ n
+digits n a b c w x y z ew ex ey ez = omega arith
+
+four-bytes : (n : ℕ) → n < amountEnd → word (n % 256) (n / 256 % 256) (n / 65536 % 256) (n / 16777216 % 256) ≡ n
+four-bytes n l =
+    let third : n / 65536 ≡ n / 256 / 256 = omega arith in
+    let fourth : n / 16777216 ≡ n / 256 / 256 / 256 = omega arith in
+    let last : n / 256 / 256 / 256 ≡ n / 256 / 256 / 256 % 256 = omega arith in
+    rw (third, fourth) (digits n (n / 256) (n / 256 / 256) (n / 256 / 256 / 256) _ _ _ _ (digit n) (digit (n / 256)) (digit (n / 256 / 256)) last)
+  where
+    digit : (x : ℕ) → x ≡ x % 256 + 256 * (x / 256)
+    digit x = omega arith
+
+pub read-again : (r : Record) → r .amount < amountEnd → recordAt (bytesOf r) 0 ≡ r
+unfolding recordAt bytesOf
+read-again r l = ap (recordOf (r .kind) (r .yard) (r .farm) (r .byte3)) (four-bytes (r .amount) l)
+
+-- ---- writing one
 
 pub put-fits : (area : List ℕ) (at : ℕ) (r : Record) → at + 8 ≤ length area → putAt area at r ≡ splice area at (bytesOf r)
 unfolding putAt

@@ -1,11 +1,11 @@
--- Document 01's marked cases as one table: what each call gives, computed from the definitions, is the answer beside it.
+-- The marked cases of documents 01 and 02 as one table: what each call gives, computed from the definitions, is the answer beside it.
 use Prim.Native.Nat.{ℕ}
 use mathlib.Core.Path.{_≡_, refl}
 use mathlib.Core.List.{List, [], _∷_, _++_}
 use Rattle.model.specs.Loops.{allBelow, leading, sum, join}
 use Rattle.model.specs.Least.{any, least, arg}
 use Rattle.model.specs.Sets.{member, with, without}
-use Rattle.model.specs.Instance.{metric, fourPointBPQ, fourPointPQ, fourPointQ, fourPoint, nearest, assigned, openingCost, serviceCost, totalCost}
+use Rattle.model.specs.Instance.{metric, fourPointBPQ, fourPointPQ, fourPointQ, fourPoint, nearest, atNearest, assigned, openingCost, serviceCost, totalCost}
 use Rattle.model.specs.Neighbours.{addAt, adds, dropAt, drops, swapAt, swapsOut, swaps, addDropSwap}
 use Rattle.model.specs.Search.{better, best, next, descend, search}
 use Rattle.model.specs.Plans.{openCost, openStart, openSearch, limitedCost, limitedStart, limitedSearch}
@@ -31,6 +31,10 @@ haulTo p a amount = bytesOf (recordOf 0x48 a p 0 amount)
 -- two yards with fees 0, and two farms: hauls 1, 1 and 1, x
 twoYards : ℕ → List ℕ
 twoYards x = yard 0 0 ++ yard 1 0 ++ haulTo 0 0 1 ++ haulTo 0 1 1 ++ haulTo 1 0 1 ++ haulTo 1 1 x
+
+-- document 02, paper 1: two yards with these fees and one farm at 3 and 3
+equalHauls : ℕ → ℕ → List ℕ
+equalHauls a b = yard 0 a ++ yard 1 b ++ haulTo 0 0 3 ++ haulTo 0 1 3
 
 -- sheet S: fees 1, 4, 2; hauls of farm 0: 1, 3, 9; farm 1: 5, 1, 5; farm 2: 9, 5, 1
 sheetS : List ℕ
@@ -71,9 +75,9 @@ opened i fee = bytesOf (recordOf 0x4F i 0 0 fee)
 served : ℕ → ℕ → ℕ → List ℕ
 served p a amount = bytesOf (recordOf 0x41 a p 0 amount)
 
--- the total for so many yards and the three farms of S, and the moves
-ends : ℕ → ℕ → ℕ → List ℕ
-ends open-yards total moves = bytesOf (recordOf 0x54 open-yards 3 0 total) ++ bytesOf (recordOf 0x4D 0 0 0 moves)
+-- the total for so many yards and farms, and the moves
+ends : ℕ → ℕ → ℕ → ℕ → List ℕ
+ends open-yards farm-count total moves = bytesOf (recordOf 0x54 open-yards farm-count 0 total) ++ bytesOf (recordOf 0x4D 0 0 0 moves)
 
 gives : List ℕ → ℕ → Given
 gives bytes moves = planAnswer (accepted record { bytes = bytes; moves = moves })
@@ -95,22 +99,26 @@ table =
     -- S is accepted; its open plan
     case (reads sheetS) (readAnswer (accepted (counts 3 3)))
     ∷ case (plans sheetS)
-    (gives (opened 0 1 ++ opened 1 4 ++ opened 2 2 ++ served 0 0 1 ++ served 1 1 1 ++ served 2 2 1 ++ ends 3 10 2) 2)
+    (gives (opened 0 1 ++ opened 1 4 ++ opened 2 2 ++ served 0 0 1 ++ served 1 1 1 ++ served 2 2 1 ++ ends 3 3 10 2) 2)
     -- pricing {0, 2}, {1}, no yard, yard 3
-    ∷ case (prices sheetS 5) (gives (opened 0 1 ++ opened 2 2 ++ served 0 0 1 ++ served 1 0 5 ++ served 2 2 1 ++ ends 2 10 0) 0)
-    ∷ case (prices sheetS 2) (gives (opened 1 4 ++ served 0 1 3 ++ served 1 1 1 ++ served 2 1 5 ++ ends 1 13 0) 0)
+    ∷ case (prices sheetS 5) (gives (opened 0 1 ++ opened 2 2 ++ served 0 0 1 ++ served 1 0 5 ++ served 2 2 1 ++ ends 2 3 10 0) 0)
+    ∷ case (prices sheetS 2) (gives (opened 1 4 ++ served 0 1 3 ++ served 1 1 1 ++ served 2 1 5 ++ ends 1 3 13 0) 0)
     ∷ case (prices sheetS 0) (refuses 8)
     ∷ case (prices sheetS 8) (refuses 8)
     -- the limited plans for k = 1, 2, 3, and for 0 and 4
-    ∷ case (plansLimited sheetS 1) (gives (opened 1 4 ++ served 0 1 3 ++ served 1 1 1 ++ served 2 1 5 ++ ends 1 9 1) 1)
-    ∷ case (plansLimited sheetS 2) (gives (opened 1 4 ++ opened 2 2 ++ served 0 1 3 ++ served 1 1 1 ++ served 2 2 1 ++ ends 2 5 1) 1)
+    ∷ case (plansLimited sheetS 1) (gives (opened 1 4 ++ served 0 1 3 ++ served 1 1 1 ++ served 2 1 5 ++ ends 1 3 9 1) 1)
+    ∷ case (plansLimited sheetS 2) (gives (opened 1 4 ++ opened 2 2 ++ served 0 1 3 ++ served 1 1 1 ++ served 2 2 1 ++ ends 2 3 5 1) 1)
     ∷ case (plansLimited sheetS 3)
-    (gives (opened 0 1 ++ opened 1 4 ++ opened 2 2 ++ served 0 0 1 ++ served 1 1 1 ++ served 2 2 1 ++ ends 3 3 0) 0)
+    (gives (opened 0 1 ++ opened 1 4 ++ opened 2 2 ++ served 0 0 1 ++ served 1 1 1 ++ served 2 2 1 ++ ends 3 3 3 0) 0)
     ∷ case (plansLimited sheetS 0) (refuses 7)
     ∷ case (plansLimited sheetS 4) (refuses 7)
     -- the rule kept, and broken
     ∷ case (reads (twoYards 3)) (readAnswer (accepted (counts 2 2)))
     ∷ case (reads (twoYards 4)) (readAnswer (refused 6))
+    -- equal hauls go to the lower fee, in a limited plan too, and only then to the lower number
+    ∷ case (prices (equalHauls 4 2) 3) (gives (opened 0 4 ++ opened 1 2 ++ served 0 1 3 ++ ends 2 1 9 0) 0)
+    ∷ case (plansLimited (equalHauls 4 2) 2) (gives (opened 0 4 ++ opened 1 2 ++ served 0 1 3 ++ ends 2 1 3 0) 0)
+    ∷ case (prices (equalHauls 2 2) 3) (gives (opened 0 2 ++ opened 1 2 ++ served 0 0 3 ++ ends 2 1 7 0) 0)
     ∷ []
 
 pub expected : List Case → List Given
@@ -122,5 +130,5 @@ computed [] = []
 computed (c ∷ cs) = given (c .call) ∷ computed cs
 
 pub marked-cases : computed table ≡ expected table
-unfolding table case gives refuses ends served opened given room sheetS twoYards haulTo yard expected computed bytesOf recordAt wellFormed reading form question1 question2 wellFormedAt question3 numbered noYardAfter question4 haulInPlace farmInPlace question5 amountWithin question6 isYard yards hauls farms fee haul instanceOf instanceBy allBelow leading sum join any least arg member with without metric fourPointBPQ fourPointPQ fourPointQ fourPoint nearest assigned openingCost serviceCost totalCost addAt adds dropAt drops swapAt swapsOut swaps addDropSwap better best next descend search openCost openStart openSearch limitedCost limitedStart limitedSearch openRecord farmRecord totalRecord movesRecord planBytes question9 question8 pricing openEnd limitedEnd settledAt planOf openPlan limitedPlan question7 openPlanning limitedPlanning
+unfolding table case gives refuses ends served opened given room sheetS twoYards equalHauls haulTo yard expected computed bytesOf recordAt wellFormed reading form question1 question2 wellFormedAt question3 numbered noYardAfter question4 haulInPlace farmInPlace question5 amountWithin question6 isYard yards hauls farms fee haul instanceOf instanceBy allBelow leading sum join any least arg member with without metric fourPointBPQ fourPointPQ fourPointQ fourPoint nearest atNearest assigned openingCost serviceCost totalCost addAt adds dropAt drops swapAt swapsOut swaps addDropSwap better best next descend search openCost openStart openSearch limitedCost limitedStart limitedSearch openRecord farmRecord totalRecord movesRecord planBytes question9 question8 pricing openEnd limitedEnd settledAt planOf openPlan limitedPlan question7 openPlanning limitedPlanning
 marked-cases = refl

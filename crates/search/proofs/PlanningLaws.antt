@@ -143,11 +143,11 @@ open-when s room p h =
     (c .yards, c .farms, r .1, sym (same-result (q .1)))
 
 pub limited-when : (s : List ℕ) (k room : ℕ) (p : Plan) → limitedPlanning s k room ≡ accepted p
-    → (m : ℕ) × (n : ℕ) × (reading s ≡ accepted (counts m n)) × (k ≤ m) × (p ≡ limitedPlan (instanceOf s) k)
+    → (m : ℕ) × (n : ℕ) × (reading s ≡ accepted (counts m n)) × ((1 ≤ k) × (k ≤ m)) × (p ≡ limitedPlan (instanceOf s) k)
 unfolding limitedPlanning
 limited-when s k room p h =
     let r = read-first (reading s) _ p h in
     let c = r .0 in
     let q7 = asked (question7 (c .yards) k) 7 _ p (r .2) in
     let q9 = asked (question9 (c .yards) (c .farms) room) 9 _ p (q7 .1) in
-    (c .yards, c .farms, r .1, k-within (c .yards) k (q7 .0) .1, sym (same-result (q9 .1)))
+    (c .yards, c .farms, r .1, k-within (c .yards) k (q7 .0), sym (same-result (q9 .1)))

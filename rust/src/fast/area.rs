@@ -1,7 +1,8 @@
 //! The plan area.
-use super::near::{HaulTo, Yards};
+use super::near::HaulTo;
 use super::sheet::{Amounts, Hauls};
 use super::sum::Sum;
+use super::yards::Yards;
 use crate::format::{record, FARM, MOVES, OPEN, RECORD, TOTAL};
 use crate::Written;
 
@@ -18,7 +19,7 @@ pub fn write<S: Sum>(
     let (open, rest) = records.split_at_mut(yards.count());
     let (farms, last) = rest.split_at_mut(hauls.farms);
     let mut total = 0;
-    for (place, yard) in open.iter_mut().zip(yards.iter()) {
+    for (place, yard) in open.iter_mut().zip(yards.numbers()) {
         *place = record(OPEN, yard, 0, hauls.fees[yard]);
         total += fees[yard];
     }

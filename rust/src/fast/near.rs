@@ -1,57 +1,33 @@
-//! The yards of a set, and which of them are nearest to a farm.
+//! Which yards of a set are nearest to a farm.
 use super::sheet::Amounts;
 use super::sum::Sum;
+use super::yards::{Ranked, Yards, YARD_BITS};
 use crate::format::{HIGHEST_HAUL, MOST_YARDS};
 use std::array::from_fn;
 
-/// The yards of a set, by number.
-pub struct Yards {
-    list: [u8; MOST_YARDS],
-    count: usize,
-}
-
-impl Yards {
-    pub fn of(set: u32) -> Yards {
-        let mut yards = Yards { list: [0; MOST_YARDS], count: 0 };
-        let mut left = set;
-        while left != 0 {
-            yards.list[yards.count] = left.trailing_zeros() as u8;
-            yards.count += 1;
-            left &= left - 1;
-        }
-        yards
-    }
-
-    pub fn count(&self) -> usize {
-        self.count
-    }
-
-    /// The remainder changes nothing; it tells the compiler that a yard is an index of a row.
-    #[inline(always)]
-    pub fn iter(&self) -> impl Iterator<Item = usize> + '_ {
-        self.list[..self.count].iter().map(|&yard| usize::from(yard) % MOST_YARDS)
-    }
-}
-
-/// A haul and its yard in one number, the yard in the low bits: of two the lesser has the smaller haul, or the lower yard
-/// where the hauls are equal.
+/// A haul and its yard in one number, the haul in the high bits, then the yard's rank, then its number: of two the lesser has
+/// the smaller haul, or the lower rank where the hauls are equal.
 #[derive(Clone, Copy, PartialEq, Eq, PartialOrd, Ord)]
 pub struct HaulTo<S>(S);
 
-const YARD_BITS: u32 = MOST_YARDS.ilog2();
+/// Of rank and number.
+const RANKED_BITS: u32 = 2 * YARD_BITS;
+const HIGHEST_RANKED: u32 = (1 << RANKED_BITS) - 1;
+/// `Sum` takes the lesser of numbers below half of what the bits hold.
+const _: () = assert!(HIGHEST_HAUL <= i32::MAX as u32 >> RANKED_BITS);
 
 impl<S: Sum> HaulTo<S> {
     /// No other is above this.
     fn highest() -> HaulTo<S> {
-        HaulTo(S::from(HIGHEST_HAUL) << YARD_BITS | S::from(MOST_YARDS as u32 - 1))
+        HaulTo(S::from(HIGHEST_HAUL) << RANKED_BITS | S::from(HIGHEST_RANKED))
     }
 
-    fn new(row: &Amounts, yard: usize) -> HaulTo<S> {
-        HaulTo(S::from(row[yard]) << YARD_BITS | S::from(yard as u32))
+    fn new(row: &Amounts, yard: Ranked) -> HaulTo<S> {
+        HaulTo(S::from(row[yard.number()]) << RANKED_BITS | S::from(yard.bits()))
     }
 
     pub fn haul(self) -> u32 {
-        (self.0 >> YARD_BITS).low_32()
+        (self.0 >> RANKED_BITS).low_32()
     }
 
     pub fn yard(self) -> usize {
@@ -59,11 +35,11 @@ impl<S: Sum> HaulTo<S> {
     }
 }
 
-/// For each of four farms the smallest haul to one of the yards, the lowest number among equals. Four at a time are for
+/// For each of four farms the smallest haul to one of the yards, the lowest rank among equals. Four at a time are for
 /// vector instructions.
 pub fn nearest_of_four(rows: &[Amounts; 4], yards: &Yards) -> [HaulTo<u32>; 4] {
     let mut least = [HaulTo::<u32>::highest().0; 4];
-    for yard in yards.iter() {
+    for yard in yards.ranked() {
         for (least, row) in least.iter_mut().zip(rows) {
             *least = least.lesser(HaulTo::<u32>::new(row, yard).0);
         }
@@ -88,7 +64,7 @@ impl<S: Sum> Near<S> {
     pub fn of_four(rows: &[Amounts; 4], yards: &Yards) -> [Near<S>; 4] {
         let mut first = [HaulTo::<S>::highest().0; 4];
         let mut second = first;
-        for yard in yards.iter() {
+        for yard in yards.ranked() {
             for (farm, row) in rows.iter().enumerate() {
                 let haul = HaulTo::<S>::new(row, yard).0;
                 second[farm] = second[farm].lesser(first[farm].greater(haul));
@@ -99,13 +75,13 @@ impl<S: Sum> Near<S> {
     }
 
     /// With one more yard in the set.
-    pub fn with(self, row: &Amounts, yard: usize) -> Near<S> {
+    pub fn with(self, row: &Amounts, yard: Ranked) -> Near<S> {
         let haul = HaulTo::new(row, yard);
         Near { first: self.first.min(haul), second: self.second.min(self.first.max(haul)) }
     }
 
     /// Whether one more yard in the set is one of the two.
-    pub fn changes_with(self, row: &Amounts, yard: usize) -> bool {
+    pub fn changes_with(self, row: &Amounts, yard: Ranked) -> bool {
         HaulTo::<S>::new(row, yard) < self.second
     }
 
@@ -113,7 +89,7 @@ impl<S: Sum> Near<S> {
     pub fn without(self, went: u32, row: &Amounts, yards: &Yards) -> Near<S> {
         let first = if went >> self.first.yard() & 1 == 1 { self.second } else { self.first };
         let to_another = |to: HaulTo<S>| if to == first { HaulTo::highest() } else { to };
-        let second = yards.iter().map(|yard| to_another(HaulTo::new(row, yard))).fold(HaulTo::highest(), HaulTo::min);
+        let second = yards.ranked().map(|yard| to_another(HaulTo::new(row, yard))).fold(HaulTo::highest(), HaulTo::min);
         Near { first, second }
     }
 

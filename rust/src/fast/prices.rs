@@ -1,7 +1,8 @@
 //! The costs of all moves from a set, and the move that is taken.
-use super::near::{Near, Yards};
+use super::near::Near;
 use super::sheet::{Amounts, Hauls};
 use super::sum::Sum;
+use super::yards::Yards;
 use crate::format::MOST_YARDS;
 
 /// The haul costs of all moves from a set, as sums over its farms.
@@ -72,7 +73,7 @@ impl<S: Sum> Prices<S> {
 
     /// The set after an open plan's next move, where a move lowers the full cost.
     pub fn open_move(&self, hauls: &Hauls, set: u32, yards: &Yards) -> Option<u32> {
-        let fees: S = yards.iter().map(|yard| S::from(hauls.fees[yard])).sum();
+        let fees: S = yards.numbers().map(|yard| S::from(hauls.fees[yard])).sum();
         let now = fees + self.haul_cost(set);
         let mut adds = self.added;
         for (add, &fee) in adds.iter_mut().zip(&hauls.fees) {
@@ -81,7 +82,7 @@ impl<S: Sum> Prices<S> {
         let mut choice = Choice { cost: now, set: None };
         choice.offer_row(&adds, S::default(), |yard| set | 1 << yard);
         if yards.count() > 1 {
-            for out in yards.iter() {
+            for out in yards.numbers() {
                 choice.offer(now + self.loss[out] - S::from(hauls.fees[out]), set & !(1 << out));
             }
         }
@@ -102,7 +103,7 @@ impl<S: Sum> Prices<S> {
 
     /// For an open yard coming in, a swap here is the drop with one fee more, or no move: it is never chosen.
     fn offer_swaps(&self, choice: &mut Choice<S>, adds: &[S; MOST_YARDS], fees: &Amounts, set: u32, yards: &Yards) {
-        for out in yards.iter() {
+        for out in yards.numbers() {
             let mut swaps = self.more[out];
             for (swap, &add) in swaps.iter_mut().zip(adds) {
                 *swap += add;

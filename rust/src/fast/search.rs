@@ -1,9 +1,10 @@
 //! The searches for both plans.
 use super::area;
-use super::near::{Near, Yards};
+use super::near::Near;
 use super::prices::Prices;
 use super::sheet::{Amounts, Hauls};
 use super::sum::Sum;
+use super::yards::{ranks, Ranks, Yards};
 use crate::format::{MOST_FARMS, MOST_YARDS};
 use crate::Written;
 
@@ -34,6 +35,7 @@ fn cheapest_yard<S: Sum>(hauls: &Hauls) -> usize {
 /// A set on the way, with each farm's nearest yards and the costs of all moves.
 struct Search<'a, S> {
     hauls: &'a Hauls,
+    ranks: Ranks,
     set: u32,
     yards: Yards,
     moves: u32,
@@ -43,7 +45,8 @@ struct Search<'a, S> {
 
 impl<'a, S: Sum> Search<'a, S> {
     fn new(hauls: &'a Hauls, set: u32) -> Search<'a, S> {
-        let yards = Yards::of(set);
+        let ranks = ranks(&hauls.fees);
+        let yards = Yards::of(set, &ranks);
         let mut near = [Near::none(); MOST_FARMS];
         let mut prices = Prices::none(hauls);
         for (rows, near) in hauls.rows_by_four().iter().zip(near.as_chunks_mut().0) {
@@ -52,7 +55,7 @@ impl<'a, S: Sum> Search<'a, S> {
         for (row, &near) in hauls.rows().iter().zip(&near) {
             prices.put(row, near);
         }
-        Search { hauls, set, yards, moves: 0, near, prices }
+        Search { hauls, ranks, set, yards, moves: 0, near, prices }
     }
 
     /// Makes the move to this set. Only the farms whose nearest yards change are priced again.
@@ -60,9 +63,9 @@ impl<'a, S: Sum> Search<'a, S> {
         let came = next & !self.set;
         let went = self.set & !next;
         self.set = next;
-        self.yards = Yards::of(next);
+        self.yards = Yards::of(next, &self.ranks);
         self.moves += 1;
-        let yard = came.trailing_zeros() as usize % MOST_YARDS;
+        let yard = self.ranks[came.trailing_zeros() as usize % MOST_YARDS];
         match (came, went) {
             (_, 0) => self.price_again(came, went, |row, near| near.changes_with(row, yard)),
             (0, _) => self.price_again(came, went, |_, near| near.goes_to(went)),
@@ -73,7 +76,7 @@ impl<'a, S: Sum> Search<'a, S> {
     /// The farms that pass the test: a loop of its own for each kind of move.
     #[inline(always)]
     fn price_again(&mut self, came: u32, went: u32, touched: impl Fn(&Amounts, Near<S>) -> bool) {
-        let yard = came.trailing_zeros() as usize % MOST_YARDS;
+        let yard = self.ranks[came.trailing_zeros() as usize % MOST_YARDS];
         for (row, near) in self.hauls.rows().iter().zip(&mut self.near) {
             let before = *near;
             if !touched(row, before) {

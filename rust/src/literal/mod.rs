@@ -1,5 +1,5 @@
-//! Document 01 written a second time, sentence by sentence and in its order, to compare the proved library with. Plain before
-//! fast: every question is asked over the whole sheet and every move is priced from nothing.
+//! Document 01 written a second time, sentence by sentence and in its order, with what document 02 changes, to compare the proved
+//! library with. Plain before fast: every question is asked over the whole sheet and every move is priced from nothing.
 mod haul_sheet;
 mod plan_area;
 mod questions;
@@ -11,7 +11,7 @@ use crate::{Answer, Counts, Written};
 use questions::{ask, ask_1_to_4, ask_1_to_6, question_7, question_8, question_9};
 use search::Settled;
 
-pub use search::Move;
+pub use search::{ChosenBy, Move};
 
 /// Reading asks 1 to 6 and returns m and n.
 pub fn read(sheet: &[u8]) -> Answer<Counts> {
@@ -56,4 +56,12 @@ pub fn limited_plan(sheet: &[u8], k: usize, area: &mut [u8]) -> Answer<Written> 
 /// The moves of the open plan, first to last; none where reading refuses the sheet.
 pub fn open_moves(sheet: &[u8]) -> Vec<Move> {
     ask_1_to_6(sheet).map_or(Vec::new(), |sheet| search::open_plan(&sheet).moves)
+}
+
+/// What each farm's yard of a set is chosen by; of no farm where questions 1 to 4 or 8 are answered no.
+pub fn chosen_by(sheet: &[u8], set: u32) -> Vec<ChosenBy> {
+    match ask_1_to_4(sheet) {
+        Ok(sheet) if question_8(&sheet, set) => (0..sheet.n()).map(|farm| sheet.chosen_by(set, farm)).collect(),
+        _ => Vec::new(),
+    }
 }

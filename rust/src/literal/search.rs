@@ -5,7 +5,8 @@ use super::questions::marks;
 impl HaulSheet {
     /// The sum over farms of the smallest haul to a yard of the set, which is not empty.
     pub fn haul_cost(&self, set: u32) -> u64 {
-        (0..self.n()).map(|farm| self.haul(self.given_yard(set, farm), farm)).sum()
+        let smallest = |hauls: &Vec<u64>| self.open_yards(set).map(|yard| hauls[yard]).min();
+        self.hauls.iter().map(|hauls| smallest(hauls).expect("the set is not empty")).sum()
     }
 
     pub fn fees_of(&self, set: u32) -> u64 {
@@ -17,9 +18,25 @@ impl HaulSheet {
         self.haul_cost(set) + self.fees_of(set)
     }
 
-    /// The yard of the set with the smallest haul; `min_by_key` gives the first, which is the lowest number, among equals.
+    /// Paper 1 of document 02: the yard of the set with the smallest haul, among equals the one with the lower fee, and only then
+    /// the lower number. This holds in every plan and in pricing.
     pub fn given_yard(&self, set: u32, farm: usize) -> usize {
-        self.open_yards(set).min_by_key(|&yard| self.haul(yard, farm)).expect("the set is not empty")
+        let rank = |&yard: &usize| (self.haul(yard, farm), self.fees[yard], yard);
+        self.open_yards(set).min_by_key(rank).expect("the set is not empty")
+    }
+
+    /// What the farm's yard is chosen by.
+    pub fn chosen_by(&self, set: u32, farm: usize) -> ChosenBy {
+        let given = self.given_yard(set, farm);
+        let as_near = |&yard: &usize| yard != given && self.haul(yard, farm) == self.haul(given, farm);
+        let fees: Vec<u64> = self.open_yards(set).filter(as_near).map(|yard| self.fees[yard]).collect();
+        if fees.is_empty() {
+            ChosenBy::Haul
+        } else if fees.contains(&self.fees[given]) {
+            ChosenBy::Number
+        } else {
+            ChosenBy::Fee
+        }
     }
 
     /// The yards of the set, by number.
@@ -30,6 +47,14 @@ impl HaulSheet {
     fn closed_yards(&self, set: u32) -> impl Iterator<Item = usize> {
         (0..self.m()).filter(move |&yard| !marks(set, yard))
     }
+}
+
+/// The haul where one yard alone has the smallest, the fee among equal hauls, or the number where fees are equal too.
+#[derive(Clone, Copy, Debug, PartialEq, Eq)]
+pub enum ChosenBy {
+    Haul,
+    Fee,
+    Number,
 }
 
 /// One step of a search.

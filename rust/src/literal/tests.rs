@@ -1,4 +1,4 @@
-//! What only this program tells: the moves one by one, the costs of sets, a farm's stretch.
+//! What only this program tells: the moves one by one, the costs of sets, what a yard is chosen by, a farm's stretch.
 use super::*;
 
 fn sheet<const M: usize>(fees: [u8; M], farms: &[[u8; M]]) -> Vec<u8> {
@@ -60,6 +60,49 @@ fn costs_of_s() {
     assert_eq!(costs(0b011), (7, 5));
     assert_eq!(costs(0b101), (7, 3));
     assert_eq!(costs(0b111), (3, 7));
+}
+
+/// The yard of each farm, from the records of kind 41 hex.
+fn yards_given(call: impl Fn(&mut [u8]) -> Answer<Written>) -> Vec<u8> {
+    let mut area = [0; 64];
+    let written = call(&mut area).unwrap();
+    area[..written.bytes].chunks(8).filter(|record| record[0] == 0x41).map(|record| record[1]).collect()
+}
+
+/// Pricing this set gives each farm this yard, chosen by this.
+fn check_choice<const M: usize>(fees: [u8; M], farms: &[[u8; M]], set: u32, yards: &[u8], by: &[ChosenBy]) {
+    let sheet = sheet(fees, farms);
+    assert_eq!(yards_given(|area| price(&sheet, set, area)), yards);
+    assert_eq!(chosen_by(&sheet, set), by);
+}
+
+#[test]
+fn a_yard_is_chosen_by_haul_then_fee_then_number() {
+    use ChosenBy::{Fee, Haul, Number};
+    // The example of paper 1: of equal hauls the dearer lower number loses. The cheaper one wins wherever it stands.
+    check_choice([4, 2], &[[3, 3]], 0b11, &[1], &[Fee]);
+    check_choice([2, 4], &[[3, 3]], 0b11, &[0], &[Fee]);
+    // Equal fees go to the lower number, though a dearer one stands before them.
+    check_choice([2, 2], &[[3, 3]], 0b11, &[0], &[Number]);
+    check_choice([4, 2, 2], &[[3, 3, 3]], 0b111, &[1], &[Number]);
+    // A lower fee does not win over a lower haul.
+    check_choice([4, 2], &[[2, 3], [3, 2]], 0b11, &[0, 1], &[Haul, Haul]);
+    // Only yards of the set count.
+    check_choice([4, 2, 1], &[[3, 3, 3]], 0b011, &[1], &[Fee]);
+    check_choice([4, 2, 1], &[[3, 3, 3]], 0b001, &[0], &[Haul]);
+    assert_eq!([chosen_by(&sheet_s(), 0), chosen_by(&sheet_s(), 8), chosen_by(&sheet_s()[1..], 1)], [[]; 3]);
+}
+
+#[test]
+fn both_plans_choose_as_pricing_does() {
+    // Both yards are opened for farms 1 and 2; farm 0 has equal hauls.
+    let open = sheet([4, 2], &[[3, 3], [1, 7], [7, 1]]);
+    assert_eq!(yards_given(|area| open_plan(&open, area)), [1, 0, 1]);
+    // The fees count here too, though the cost leaves them out.
+    assert_eq!(yards_given(|area| limited_plan(&open, 2, area)), [1, 0, 1]);
+    let three = sheet([4, 2, 1], &[[3, 3, 3]]);
+    assert_eq!(yards_given(|area| limited_plan(&three, 2, area)), [1]);
+    assert_eq!(yards_given(|area| limited_plan(&three, 3, area)), [2]);
 }
 
 #[test]

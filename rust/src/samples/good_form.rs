@@ -1,6 +1,6 @@
 //! Sheets of good form: accepted ones, and ones whose amounts or hauls may be refused.
 use super::tables::{between, from_lists, manhattan, plane, repair, small_amounts, within_threefold};
-use super::Sample;
+use super::{below, Sample};
 use crate::format::{HIGHEST_FEE, HIGHEST_HAUL};
 use crate::random::Random;
 use crate::table::Table;
@@ -33,6 +33,21 @@ pub fn accepted(random: &mut Random, yards: usize, farms: usize) -> Sample {
         }
     };
     Sample::of_table(name, &table, None)
+}
+
+/// An accepted sheet of many equal hauls and many equal fees: each is one of at most three amounts. Hauls within a
+/// threefold range keep question 6.
+pub fn tied(random: &mut Random, yards: usize, farms: usize) -> Sample {
+    let low = [1, 20, THIRD][below(random, 3)];
+    let highest_fee = [3, low / 4, low, HIGHEST_FEE][below(random, 4)];
+    let hauls = few_amounts(random, low, (3 * low).min(HIGHEST_HAUL));
+    let fees = few_amounts(random, 0, highest_fee);
+    Sample::of_table("tied", &from_lists(random, yards, farms, &fees, &hauls), None)
+}
+
+/// One to three amounts.
+fn few_amounts(random: &mut Random, low: u32, high: u32) -> Vec<u32> {
+    (0..random.between(1, 3)).map(|_| random.between(low.into(), high.into()) as u32).collect()
 }
 
 /// A sheet of good form whose amounts are not looked after: accepted, or refused for question 5 or 6.

@@ -14,7 +14,7 @@ mod tables;
 
 pub use chance::{damaged, loose_records, random_bytes};
 pub use faults::{faulty, several_faults};
-pub use good_form::{accepted, broken_by_one_cent, kept_to_the_cent, unrepaired};
+pub use good_form::{accepted, broken_by_one_cent, kept_to_the_cent, tied, unrepaired};
 pub use kept::{kept, kept_moves};
 pub use named::named;
 pub use tables::{from_lists, manhattan, plane, repair, small_amounts, within_threefold};

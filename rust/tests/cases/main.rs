@@ -1,4 +1,4 @@
-//! Document 01's cases beside the marked ones, and sheets and calls with several faults at once: each sheet is built
+//! Document 01's cases beside the marked ones, ties, and sheets and calls with several faults at once: each sheet is built
 //! here, and what the calls answer and leave in the area makes a line. The file `lines` has the lines that must come,
 //! checked by hand.
 mod planning;
@@ -9,7 +9,7 @@ use planner::calls::{Calls, FAST, LIBRARY, LITERAL};
 use planner::{library, literal};
 
 const MUST_COME: &str = include_str!("lines");
-const LINE_COUNT: usize = 90;
+const LINE_COUNT: usize = 96;
 
 /// How an implementation gives a farm's stretch.
 type FarmHauls = fn(&[u8], usize) -> Vec<u8>;

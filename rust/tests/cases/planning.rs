@@ -1,6 +1,7 @@
 //! Cases of pricing and of the two plans. The area holds a pattern before each call, so that every byte written shows.
 use crate::sheets::{
-    changed_s, dropping, even, haul, haul_place, lowest, of_length, s, yard, yard_place, KIND_5A, S_LENGTH,
+    changed_s, dropping, equal_hauls, even, haul, haul_place, lowest, of_length, paper_1, s, yard, yard_place, KIND_5A,
+    S_LENGTH,
 };
 use planner::calls::{Calls, PlanCall};
 use planner::format::{amount, record, HIGHEST_FEE, HIGHEST_HAUL, MOST_AREA, MOST_FARMS, MOST_YARDS, RECORD};
@@ -15,7 +16,7 @@ const S_AREA: usize = 64;
 const LONG_PLAN: usize = 100;
 
 pub fn all(calls: &Calls) -> Vec<String> {
-    [areas(calls), questions(calls), moves(calls), unread_sheets(calls), largest(calls)].concat()
+    [areas(calls), questions(calls), moves(calls), ties(calls), unread_sheets(calls), largest(calls)].concat()
 }
 
 fn price_case(calls: &Calls, name: &str, sheet: &[u8], set: u32, room: usize) -> String {
@@ -115,6 +116,19 @@ fn moves(calls: &Calls) -> Vec<String> {
         open_case(calls, "a yard is dropped, open plan", &dropping(), room),
         limited_case(calls, "the same sheet, k = 2", &dropping(), 2, room),
         open_case(calls, "the lowest move is taken, open plan", &lowest(), room),
+    ]
+}
+
+/// Of yards with equal hauls a farm is given the one with the lower fee, of these the lower number.
+fn ties(calls: &Calls) -> Vec<String> {
+    let room = S_AREA + 4 * RECORD;
+    vec![
+        price_case(calls, "paper 1, pricing {0, 1}", &paper_1(), 0b11, room),
+        limited_case(calls, "paper 1, k = 2", &paper_1(), 2, room),
+        price_case(calls, "equal hauls, pricing {0, 2}", &equal_hauls(), 0b101, room),
+        price_case(calls, "equal hauls, pricing {1, 2}", &equal_hauls(), 0b110, room),
+        limited_case(calls, "equal hauls, k = 2", &equal_hauls(), 2, room),
+        open_case(calls, "equal hauls, open plan", &equal_hauls(), room),
     ]
 }
 

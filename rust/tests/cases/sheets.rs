@@ -66,3 +66,15 @@ pub fn lowest() -> Vec<u8> {
     let hauls = vec![vec![2, 5, 2, 4], vec![3, 2, 3, 1], vec![2, 5, 2, 4], vec![2, 1, 4, 4]];
     Table { fees: vec![3, 1, 2, 0], hauls }.sheet()
 }
+
+/// The two yards and one farm of paper 1 of document 02.
+pub fn paper_1() -> Vec<u8> {
+    Table { fees: vec![4, 2], hauls: vec![vec![3, 3]] }.sheet()
+}
+
+/// Three yards and five farms. Farm 0 has equal hauls to all, farm 4 to yards 0 and 1, and each other farm to the two yards
+/// farther off; yards 1 and 2 have equal fees.
+pub fn equal_hauls() -> Vec<u8> {
+    let hauls = vec![vec![3, 3, 3], vec![1, 7, 7], vec![7, 1, 7], vec![7, 7, 1], vec![3, 3, 5]];
+    Table { fees: vec![4, 2, 2], hauls }.sheet()
+}

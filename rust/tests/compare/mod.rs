@@ -3,7 +3,7 @@
 mod tally;
 
 use planner::calls::{Calls, PlanCall, ALL};
-use planner::format::{least_area, MOST_AREA, MOST_FARMS, MOST_YARDS, RECORD};
+use planner::format::{least_area, MOST_AREA, MOST_FARMS, MOST_YARDS, OPEN, RECORD};
 use planner::random::Random;
 use planner::samples::Sample;
 use planner::{library, literal, Answer, Counts};
@@ -155,12 +155,22 @@ impl<'a> Comparison<'a> {
         let written = answer.map(|written| written.bytes).ok();
         let plan = MARGIN..MARGIN + written.unwrap_or(0);
         let mut expected = pattern;
-        expected[plan.clone()].copy_from_slice(&area[plan]);
+        expected[plan.clone()].copy_from_slice(&area[plan.clone()]);
         let difference = first_difference(&area, &expected);
         assert!(difference.is_none(), "{}; not as before the call: {difference:?}; {}", ours(), self.sheet());
         self.tally.answer(Name::of(call), answer.err());
         self.tally.moves += answer.map_or(0, |written| written.moves.into());
+        self.choices(Name::of(call), &area[plan]);
         written
+    }
+
+    /// Counts the farms of a plan by what their yard was chosen by, as literal sees it.
+    fn choices(&mut self, name: Name, plan: &[u8]) {
+        let opened = plan.chunks_exact(RECORD).filter(|record| record[0] == OPEN);
+        let set = opened.fold(0, |set, record| set | 1 << record[1]);
+        for by in literal::chosen_by(&self.sample.sheet, set) {
+            self.tally.choice(name, by);
+        }
     }
 
     fn large(&self) -> bool {

@@ -1,5 +1,6 @@
-//! How many calls were compared, by call and by answer.
+//! How many calls were compared, by call and by answer, and how many farms of their plans, by what their yard was chosen by.
 use planner::calls::PlanCall;
+use planner::literal::ChosenBy;
 
 #[derive(Clone, Copy, Debug)]
 pub enum Name {
@@ -25,6 +26,8 @@ const NAMES: [Name; 4] = [Name::Read, Name::Price, Name::OpenPlan, Name::Limited
 pub struct Tally {
     /// For each call, how often it was accepted (place 0) and refused with each number.
     answers: [[u64; 10]; 4],
+    /// For each call, the farms of its plans by `ChosenBy`.
+    chosen: [[u64; 3]; 4],
     /// Of all accepted calls.
     pub moves: u64,
     pub whole_stretches: u64,
@@ -35,6 +38,11 @@ pub struct Tally {
 impl Tally {
     pub fn answer(&mut self, name: Name, refused: Option<u8>) {
         self.answers[name as usize][usize::from(refused.unwrap_or(0))] += 1;
+    }
+
+    /// A farm of the call's plan.
+    pub fn choice(&mut self, name: Name, by: ChosenBy) {
+        self.chosen[name as usize][by as usize] += 1;
     }
 
     pub fn stretch(&mut self, length: usize) {
@@ -55,11 +63,20 @@ impl Tally {
         self.answers[name as usize][usize::from(answer)]
     }
 
+    /// For each call that writes plans, their farms by what the yard was chosen by: haul, fee, number.
+    pub fn choices(&self) -> [(Name, [u64; 3]); 3] {
+        [Name::Price, Name::OpenPlan, Name::LimitedPlan].map(|name| (name, self.chosen[name as usize]))
+    }
+
     pub fn print(&self) {
         println!("{} calls, each accepted and refused with 1, 2, 3 and so on:", self.calls());
         for name in NAMES {
             let [accepted, refused @ ..] = self.answers[name as usize];
             println!("{:>12} {accepted:>7} {refused:?}", format!("{name:?}"));
+        }
+        println!("farms by what their yard was chosen by: haul, fee among equal hauls, number among equal fees:");
+        for (name, chosen) in self.choices() {
+            println!("{:>12} {chosen:?}", format!("{name:?}"));
         }
         let Tally { moves, whole_stretches, empty_stretches, bytes, .. } = self;
         println!("{moves} moves");
