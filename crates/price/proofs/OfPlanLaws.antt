@@ -16,7 +16,7 @@ use Rattle.questions.specs.Answers.{Answer, accepted}
 use Rattle.questions.specs.Sheet.{yards, instanceOf}
 use Rattle.questions.specs.Reading.{counts, reading}
 use Rattle.questions.proofs.ReadingLaws.{same-result, not-both, asked, read-first}
-use Rattle.questions.proofs.AcceptedLaws.{WithinBounds, accepts, door, facilities-are}
+use Rattle.questions.proofs.AcceptedLaws.{WithinBounds, door, facilities-read}
 use Rattle.price.specs.Plan.{planBytes, question9, planSet}
 use Rattle.price.specs.Pricing.{Result, Plan, plan, plannedAnswer, answer, areaAfter, OfPlan, question8, pricing, SetKept}
 use Rattle.price.specs.declared.Planned.{Planned}
@@ -86,7 +86,7 @@ module _ (s : List ℕ) (set room : ℕ) (p : Plan) (h : pricing s set room ≡ 
   within = let r = priced-when in door s (r .0) (r .1) (r .2)
 
   as-many : instanceOf s .facilities ≡ priced-when .0
-  as-many = let r = priced-when in facilities-are s ∙ accepts s (r .0) (r .1) (r .2) .has .yards-are
+  as-many = let r = priced-when in facilities-read s (r .0) (r .1) (r .2)
 
   -- it is that of the set given
   pub priced-set : PlanOf set p

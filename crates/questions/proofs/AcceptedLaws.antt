@@ -167,6 +167,10 @@ accepts s m n h =
     let y = w .0 in
     rw (← w .1, ← w .2) (amounts-have s (y .well-formed) (y .fifth))
 
+-- the sheet's own instance has the yards that reading counts
+pub facilities-read : (s : List ℕ) (m n : ℕ) → reading s ≡ accepted (counts m n) → instanceOf s .facilities ≡ m
+facilities-read s m n e = facilities-are s ∙ accepts s m n e .has .yards-are
+
 -- the bounds that the format sets an instance
 pub record WithinBounds (I : Instance) : Type 0 where
   pub some-facilities : 1 ≤ I .facilities

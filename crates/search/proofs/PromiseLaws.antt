@@ -18,7 +18,7 @@ use Rattle.bounds.proofs.Searches.{open-plan-bound, open-plan-thrice, limited-p
 use Rattle.questions.specs.Answers.{accepted}
 use Rattle.questions.specs.Sheet.{yards, instanceOf, instanceBy}
 use Rattle.questions.specs.Reading.{counts, reading}
-use Rattle.questions.proofs.AcceptedLaws.{WithinBounds, door, accepts, facilities-are}
+use Rattle.questions.proofs.AcceptedLaws.{WithinBounds, door, facilities-are, facilities-read}
 use Rattle.price.specs.Pricing.{Plan, plannedAnswer, answer, areaAfter, OfPlan}
 use Rattle.price.specs.declared.Planned.{Planned}
 use Rattle.price.proofs.OfPlanLaws.{PlanOf, of-plan}
@@ -87,7 +87,7 @@ module _ (s : List ℕ) (w : WithinBounds (instanceOf s)) where
 
 -- k is no more than the yards of the sheet
 few-of-sheet : (s : List ℕ) (m n k : ℕ) → reading s ≡ accepted (counts m n) → k ≤ m → k ≤ instanceOf s .facilities
-few-of-sheet s m n k e h = rw (facilities-are s, accepts s m n e .has .yards-are) h
+few-of-sheet s m n k e h = rw (facilities-read s m n e) h
 
 pub open-plan-of : (s : List ℕ) (room : ℕ) (p : Plan) → openPlanning s room ≡ accepted p
     → PlanOf (openSearch (instanceOf s) (openStart (instanceOf s)) .set) p
