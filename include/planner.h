@@ -1,40 +1,44 @@
 /*
- * The yard planner for C: reads haul sheets, prices sets of yards, makes open and limited plans (document 01).
+ * The yard planner for C: reads haul sheets, prices sets of yards, makes open and limited plans (document 01 with papers 1 and 2 of
+ * document 02).
  *
  * Link target/staticlib/libexports.a, which `rt staticlib exports` proves and writes (x86-64; it needs memcpy and memset and nothing else).
  * What each call promises is its contract in crates/exports/src/lib.rt: its answer and the area after it for every input; that a priced
  * plan has the set given and a limited plan k yards; and for both plans that no move lowers the cost and that no rival is far
  * cheaper (an open plan costs at most three times a rival's set, the hauls of a limited plan are at most five times those of a rival
- * with as many yards or fewer).
+ * with as many yards or fewer; the rival carries the same loads).
  *
  * Every call ends, whatever the bytes of the sheet, the set, k and the lengths are, and either gives its whole result or refuses by
- * the number of the first question of document 01 that is answered no. The caller sees to three things that no proof can: no
+ * the number of the first question that is answered no. The caller sees to three things that no proof can: no
  * pointer is NULL (also where its length is 0), as many bytes as the length says can be read, and in an area written, and an area
  * overlaps no sheet. A sheet is only read. No call keeps a pointer, allocates memory, or has a state of its own: several threads
  * may call at once, each with its own area.
  *
- * A record has eight bytes: byte 0 the kind, byte 1 a yard number, byte 2 a farm number, byte 3 zero, bytes 4 to 7 an amount in
- * cents, lowest byte first. Numbers count from 0; bytes not named are zero.
+ * A record has eight bytes: byte 0 the kind, byte 1 a yard number, byte 2 a farm number, byte 3 a farm's loads, bytes 4 to 7 an amount
+ * in cents, lowest byte first. Numbers count from 0; bytes not named are zero.
  *
  *   kind   in a sheet of m yards and n farms, in this order
  *   59     for each yard: byte 1 the yard, the amount its fee
- *   48     for each farm, for each yard: byte 1 the yard, byte 2 the farm, the amount the haul of one load
+ *   48     for each farm, for each yard: byte 1 the yard, byte 2 the farm, byte 3 the farm's loads, 1 to 20, with 0 read as 1, the same
+ *          byte in all of a farm's records, the amount the haul of one load
  *
  *   kind   in a plan, in this order
  *   4F     for each open yard: byte 1 the yard, the amount its fee
- *   41     for each farm: byte 1 its yard, byte 2 the farm, the amount its haul; the yard is the open one of smallest haul, among equals the
- *          one of lower fee (in a limited plan too), and only then the lower number
- *   54     once: byte 1 the count of open yards, byte 2 n, the amount the total (fees and hauls; in a limited plan hauls alone)
+ *   41     for each farm: byte 1 its yard, byte 2 the farm, byte 3 as in its haul records (0 stays 0), the amount the haul of one load; the
+ *          yard is the open one of smallest haul, among equals the one of lower fee (in a limited plan too), and only then the lower number
+ *   54     once: byte 1 the count of open yards, byte 2 n, the amount the total (fees and each farm's loads times its haul; in a limited
+ *          plan without the fees)
  *   4D     once: the amount the moves made, 0 for pricing
  *
  * Results of 64 bits. Bits 0 to 7: the refusal number, 0 where the call is accepted. A refused call gives its number alone, all
  * higher bits 0, and leaves the area as it was.
  *
- *   number   what the sheet, or what is given beside it, has to be
+ *   number   what the sheet, or what is given beside it, has to be, in the order of asking
  *      1     the length is a multiple of 8, from 16 to 33,024 bytes
- *      2     every kind is 59 or 48 hex, every byte 3 zero, byte 2 zero in every yard record
+ *      2     every kind is 59 or 48 hex, bytes 2 and 3 zero in every yard record
  *      3     1 to 32 yard records stand first, numbered from 0 in order, with none after them
  *      4     the haul records are m times n with n from 1 to 128, each with the yard and farm number of its place
+ *     10     byte 3 of every haul record is at most 20, and the same in all of a farm's records
  *      5     every fee is at most 50,000,000 and every haul at most 1,000,000
  *      6     the four-point rule: haul(a, q) is at most haul(a, p) + haul(b, p) + haul(b, q), for all yards a, b and farms p, q
  *      7     limited plan: k is from 1 to m
@@ -54,13 +58,13 @@ extern "C" {
 /* An area of so many bytes holds the plan of every sheet. */
 #define PLANNER_MOST_AREA (8 * (32 + 128 + 2))
 
-/* Asks questions 1 to 6. Bits 8 to 15: the yards m; bits 16 to 23: the farms n. */
+/* Asks questions 1 to 4, 10, 5 and 6. Bits 8 to 15: the yards m; bits 16 to 23: the farms n. */
 uint64_t planner_read(const uint8_t *sheet, size_t sheet_len);
 
 /*
  * The stretch of the sheet that holds a farm's m haul records: its length in bytes, where in the sheet it begins, and its byte `at`, which is
  * 0 past its end. It is the bytes sheet[from] to sheet[from + len - 1], and lies within the sheet. The stretch is empty for a farm n or above,
- * and for a sheet that questions 1 to 4 turn down; it then begins at 0.
+ * and for a sheet that questions 1 to 4 turn down; it then begins at 0. Question 10 is not asked.
  */
 size_t planner_farm_len(const uint8_t *sheet, size_t sheet_len, size_t farm);
 size_t planner_farm_from(const uint8_t *sheet, size_t sheet_len, size_t farm);
@@ -71,13 +75,13 @@ uint8_t planner_farm_byte(const uint8_t *sheet, size_t sheet_len, size_t farm, s
  * area behind those bytes stays.
  */
 
-/* The plan of the set of yards whose bit i marks yard i. Asks questions 1 to 6, 8 and 9. */
+/* The plan of the set of yards whose bit i marks yard i. Asks what planner_read asks, then 8 and 9. */
 uint64_t planner_price(const uint8_t *sheet, size_t sheet_len, uint32_t set, uint8_t *area, size_t area_len);
 
-/* The open plan, by fees and hauls. Asks questions 1 to 6 and 9. */
+/* The open plan, by fees and hauls. Asks what planner_read asks, then 9. */
 uint64_t planner_open_plan(const uint8_t *sheet, size_t sheet_len, uint8_t *area, size_t area_len);
 
-/* The limited plan for k yards, by hauls alone. Asks questions 1 to 6, 7 and 9. */
+/* The limited plan for k yards, by hauls alone. Asks what planner_read asks, then 7 and 9. */
 uint64_t planner_limited_plan(const uint8_t *sheet, size_t sheet_len, size_t k, uint8_t *area, size_t area_len);
 
 /* The parts of a result. */

@@ -1,9 +1,11 @@
-//! The calls of document 01 as fast as plain Rust makes them. The planner's times are held against these.
+//! The calls of document 01, with papers 1 and 2 of document 02, as fast as plain Rust makes them. The planner's times are held
+//! against these.
 //!
 //! A sheet is read once into a table of fixed size. Question 6 takes two yards at a time, and a search keeps the costs of
 //! all moves and counts again only the farms that a move touches. Nothing is allocated, all numbers are whole, and the
 //! loops over yards or farms are laid out for the vector instructions that every x86-64 processor has.
 mod area;
+mod loads;
 mod near;
 mod prices;
 mod rule;
@@ -19,7 +21,7 @@ use sheet::Hauls;
 use sum::Sum;
 use yards::{ranks, Yards};
 
-/// The counts of yards and farms, or the number of the first question of 1 to 6 that is answered no.
+/// The counts of yards and farms, or the number of the first question of 1 to 4, 10, 5 and 6 that is answered no.
 pub fn read(sheet: &[u8]) -> Answer<Counts> {
     let mut hauls = Hauls::none();
     hauls.read(sheet)?;

@@ -14,13 +14,14 @@ pub const FARM: u8 = 0x41;
 pub const TOTAL: u8 = 0x54;
 pub const MOVES: u8 = 0x4D;
 
-/// The bounds of questions 1, 3, 4 and 5.
+/// The bounds of questions 1, 3, 4, 5 and 10.
 pub const SHORTEST_SHEET: usize = 16;
 pub const LONGEST_SHEET: usize = 33_024;
 pub const MOST_YARDS: usize = 32;
 pub const MOST_FARMS: usize = 128;
 pub const HIGHEST_FEE: u32 = 50_000_000;
 pub const HIGHEST_HAUL: u32 = 1_000_000;
+pub const MOST_LOADS: u8 = 20;
 
 /// What question 9 asks of the area.
 pub const fn least_area(yards: usize, farms: usize) -> usize {
@@ -30,10 +31,15 @@ pub const fn least_area(yards: usize, farms: usize) -> usize {
 /// An area for the plan of every sheet.
 pub const MOST_AREA: usize = least_area(MOST_YARDS, MOST_FARMS);
 
-/// One record. Numbers above 255 lose their high part, as faulty sheets may have it.
+/// One record, its byte 3 zero. Numbers above 255 lose their high part, as faulty sheets may have it.
 pub fn record(kind: u8, yard: usize, farm: usize, amount: u32) -> [u8; RECORD] {
+    record_with_loads(kind, yard, farm, 0, amount)
+}
+
+/// The same with the byte of a farm's loads, as hauls and the farms of a plan have it.
+pub fn record_with_loads(kind: u8, yard: usize, farm: usize, loads: u8, amount: u32) -> [u8; RECORD] {
     let [a, b, c, d] = amount.to_le_bytes();
-    [kind, yard as u8, farm as u8, 0, a, b, c, d]
+    [kind, yard as u8, farm as u8, loads, a, b, c, d]
 }
 
 /// The amount of a record, which has all its bytes.

@@ -1,7 +1,7 @@
 //! Question 6 by the four loops of its wording, in plain Rust: reading is held against it, answer and time.
 use crate::format::{amount, RECORD};
 
-/// Each farm's hauls, by yard, of a sheet whose form is good.
+/// Each farm's hauls of one load, by yard, of a sheet whose form is good. The rule does not count loads.
 pub type Hauls = Vec<Vec<u32>>;
 
 pub fn hauls_of(sheet: &[u8], yards: usize) -> Hauls {

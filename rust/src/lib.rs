@@ -1,8 +1,7 @@
-//! The yard planner for Rust (`library`), and what it is held against: the whole of document 01 a second time (`literal`), the
-//! same as fast as plain Rust makes it (`fast`), all side by side (`calls`), question 6 alone by its four loops
-//! (`four_loops`), and sheets of every kind (`samples`).
-//! `csv` and `words` are the tool `sheet`. `format`, `table` and `random` serve the others: the format's constants, a sheet as a
-//! table, seeded numbers.
+//! The yard planner for Rust (`library`), and what it is held against: the whole of document 01, with papers 1 and 2 of
+//! document 02, a second time (`literal`), the same as fast as plain Rust makes it (`fast`), all side by side (`calls`),
+//! question 6 alone by its four loops (`four_loops`), and sheets of every kind (`samples`). `csv` and `words` are the tool
+//! `sheet`. `format`, `table` and `random` serve the others: the format's constants, a sheet as a table, seeded numbers.
 pub mod calls;
 pub mod csv;
 pub mod fast;

@@ -24,13 +24,13 @@ mod raw {
     }
 }
 
-/// The counts of yards and farms, or the number of the first question of 1 to 6 that is answered no.
+/// The counts of yards and farms, or the number of the first question of 1 to 4, 10, 5 and 6 that is answered no.
 pub fn read(sheet: &[u8]) -> Answer<Counts> {
     counted(unsafe { raw::planner_read(sheet.as_ptr(), sheet.len()) })
 }
 
 /// The length of a farm's stretch of the sheet: 8 bytes for each yard; 0 for a farm n or above, and for a sheet that questions 1
-/// to 4 turn down.
+/// to 4 turn down; 10 is not asked here.
 pub fn farm_len(sheet: &[u8], farm: usize) -> usize {
     unsafe { raw::planner_farm_len(sheet.as_ptr(), sheet.len(), farm) }
 }

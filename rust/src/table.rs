@@ -1,5 +1,5 @@
-//! A haul sheet as a table of fees and hauls, before it is written as bytes.
-use crate::format::{record, HAUL, YARD};
+//! A haul sheet as a table of fees, hauls and loads, before it is written as bytes.
+use crate::format::{record, record_with_loads, HAUL, YARD};
 
 #[derive(Clone, Debug, PartialEq, Eq)]
 pub struct Table {
@@ -7,17 +7,25 @@ pub struct Table {
     pub fees: Vec<u32>,
     /// For each farm, its haul to each yard.
     pub hauls: Vec<Vec<u32>>,
+    /// For each farm, the byte that holds its loads: 0 is read as 1.
+    pub loads: Vec<u8>,
 }
 
 impl Table {
+    /// A table of one load for each farm, given as the byte 0.
+    pub fn new(fees: Vec<u32>, hauls: Vec<Vec<u32>>) -> Table {
+        let loads = vec![0; hauls.len()];
+        Table { fees, hauls, loads }
+    }
+
     /// Document 01's sheet S.
     pub fn s() -> Table {
-        Table { fees: vec![1, 4, 2], hauls: vec![vec![1, 3, 9], vec![5, 1, 5], vec![9, 5, 1]] }
+        Table::new(vec![1, 4, 2], vec![vec![1, 3, 9], vec![5, 1, 5], vec![9, 5, 1]])
     }
 
     /// Equal fees and equal hauls.
     pub fn even(yards: usize, farms: usize, fee: u32, haul: u32) -> Table {
-        Table { fees: vec![fee; yards], hauls: vec![vec![haul; yards]; farms] }
+        Table::new(vec![fee; yards], vec![vec![haul; yards]; farms])
     }
 
     /// The records of the sheet, yards first, then each farm's hauls.
@@ -28,7 +36,7 @@ impl Table {
         }
         for (farm, hauls) in self.hauls.iter().enumerate() {
             for (yard, &haul) in hauls.iter().enumerate() {
-                bytes.extend(record(HAUL, yard, farm, haul));
+                bytes.extend(record_with_loads(HAUL, yard, farm, self.loads[farm], haul));
             }
         }
         bytes

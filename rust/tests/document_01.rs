@@ -1,119 +1,12 @@
 //! The examples of document 01, section "Marked sheets and others", and its questions one by one, put to every implementation;
-//! and the example of paper 1 of document 02, on equal hauls.
-use planner::calls::{Calls, PlanCall as Call, ALL};
-use planner::{Answer, Counts, Written};
+//! the example of paper 1 of document 02, on equal hauls, and the numbers of its paper 2, on loads.
+mod checks;
 
-/// What an area holds before a call.
-const BEFORE: u8 = 0xA7;
-
-/// Enough for the plan of any accepted sheet, and more.
-const AMPLE: usize = 1400;
-
-const YARD: u8 = 0x59;
-const HAUL: u8 = 0x48;
-const HIGHEST_FEE: u32 = 50_000_000;
-const HIGHEST_HAUL: u32 = 1_000_000;
-
-fn record(kind: u8, byte_1: usize, byte_2: usize, amount: u32) -> [u8; 8] {
-    let [a, b, c, d] = amount.to_le_bytes();
-    [kind, byte_1 as u8, byte_2 as u8, 0, a, b, c, d]
-}
-
-/// The sheet of these fees, and of these hauls of each farm.
-fn sheet<F: AsRef<[u32]>>(fees: &[u32], farms: &[F]) -> Vec<u8> {
-    let mut bytes = Vec::new();
-    for (yard, &fee) in fees.iter().enumerate() {
-        bytes.extend(record(YARD, yard, 0, fee));
-    }
-    for (farm, hauls) in farms.iter().enumerate() {
-        for (yard, &haul) in hauls.as_ref().iter().enumerate() {
-            bytes.extend(record(HAUL, yard, farm, haul));
-        }
-    }
-    bytes
-}
-
-fn sheet_s() -> Vec<u8> {
-    sheet(&[1, 4, 2], &[[1, 3, 9], [5, 1, 5], [9, 5, 1]])
-}
-
-/// A sheet of equal fees and equal hauls, which the four-point rule allows.
-fn even_sheet(yards: usize, farms: usize, fee: u32, haul: u32) -> Vec<u8> {
-    sheet(&vec![fee; yards], &vec![vec![haul; yards]; farms])
-}
-
-/// The records of a plan: each open yard with its fee, the yard and haul of each farm, the total, the moves.
-fn plan(open: &[(usize, u32)], farms: &[(usize, u32)], total: u32, moves: u32) -> Vec<u8> {
-    let mut bytes = Vec::new();
-    for &(yard, fee) in open {
-        bytes.extend(record(0x4F, yard, 0, fee));
-    }
-    for (farm, &(yard, haul)) in farms.iter().enumerate() {
-        bytes.extend(record(0x41, yard, farm, haul));
-    }
-    bytes.extend(record(0x54, open.len(), farms.len(), total));
-    bytes.extend(record(0x4D, 0, 0, moves));
-    bytes
-}
-
-/// The answer to a call, and the lent area after it.
-fn result(calls: &Calls, sheet: &[u8], call: Call, area_bytes: usize) -> (Answer<Written>, Vec<u8>) {
-    let mut area = vec![BEFORE; area_bytes];
-    let answer = call.put_to(calls, sheet, &mut area);
-    (answer, area)
-}
-
-/// The call gives this plan and these moves, and the area past the plan is unchanged.
-fn check_plan(sheet: &[u8], call: Call, plan: &[u8], moves: u32) {
-    for calls in &ALL {
-        for area_bytes in [least_area(sheet), AMPLE] {
-            let (answer, area) = result(calls, sheet, call, area_bytes);
-            assert_eq!(answer, Ok(Written { bytes: plan.len(), moves }), "{} {call:?}", calls.name);
-            assert_eq!(&area[..plan.len()], plan, "{} {call:?}", calls.name);
-            assert!(area[plan.len()..].iter().all(|&byte| byte == BEFORE), "{} {call:?}", calls.name);
-        }
-    }
-}
-
-/// 8 × (m + n + 2) bytes, from the records of a well-formed sheet.
-fn least_area(sheet: &[u8]) -> usize {
-    let yards = sheet.chunks(8).filter(|record| record[0] == YARD).count();
-    let farms = sheet.len() / 8 / yards - 1;
-    8 * (yards + farms + 2)
-}
-
-/// The call is refused with this number and the area holds what it held before.
-fn check_refused(sheet: &[u8], call: Call, area_bytes: usize, number: u8) {
-    for calls in &ALL {
-        let (answer, area) = result(calls, sheet, call, area_bytes);
-        assert_eq!(answer, Err(number), "{} {call:?}", calls.name);
-        assert!(area.iter().all(|&byte| byte == BEFORE), "{} {call:?}", calls.name);
-    }
-}
-
-/// Reading returns these counts.
-fn check_read(sheet: &[u8], yards: usize, farms: usize) {
-    for calls in &ALL {
-        assert_eq!((calls.read)(sheet), Ok(Counts { yards, farms }), "{}", calls.name);
-    }
-}
-
-/// Every call is refused with this number, even where a later question would be answered no too.
-fn check_sheet_refused(sheet: &[u8], number: u8) {
-    for calls in &ALL {
-        assert_eq!((calls.read)(sheet), Err(number), "{}", calls.name);
-    }
-    for call in [
-        Call::Price { set: 1 },
-        Call::Price { set: 0 },
-        Call::OpenPlan,
-        Call::LimitedPlan { k: 1 },
-        Call::LimitedPlan { k: 0 },
-    ] {
-        check_refused(sheet, call, AMPLE, number);
-        check_refused(sheet, call, 0, number);
-    }
-}
+use checks::{
+    check_plan, check_read, check_refused, check_sheet_refused, even_sheet, plan, record, sheet, sheet_s,
+    with_farm_byte, with_loads, AMPLE, HAUL, HIGHEST_FEE, HIGHEST_HAUL, MOST_LOADS, YARD,
+};
+use planner::calls::PlanCall as Call;
 
 #[test]
 fn open_plan_of_s_byte_for_byte() {
@@ -209,6 +102,73 @@ fn the_highest_amounts() {
     check_refused(&dearest, Call::OpenPlan, 1295, 9);
 }
 
+/// S with 2, 1 and 3 loads: {0, 2} hauls 2 × 1 + 1 × 5 + 3 × 1 at fees of 1 + 2. Farm 1 has 0 here, which is read as 1.
+#[test]
+fn pricing_with_loads_byte_for_byte() {
+    #[rustfmt::skip]
+    let bytes = [
+        0x4F, 0, 0, 0, 1, 0, 0, 0,
+        0x4F, 2, 0, 0, 2, 0, 0, 0,
+        0x41, 0, 0, 2, 1, 0, 0, 0,
+        0x41, 0, 1, 0, 5, 0, 0, 0,
+        0x41, 2, 2, 3, 1, 0, 0, 0,
+        0x54, 2, 3, 0, 13, 0, 0, 0,
+        0x4D, 0, 0, 0, 0, 0, 0, 0,
+    ];
+    let s = with_loads(sheet_s(), &[2, 0, 3]);
+    check_read(&s, 3, 3);
+    check_plan(&s, Call::Price { set: 0b101 }, &bytes, 0);
+}
+
+/// 1 to 20 loads, with 0 read as 1: one farm at 7 cents and a fee of 5.
+#[test]
+fn every_byte_of_loads() {
+    for byte in 0..=255 {
+        let one_farm = with_loads(sheet(&[5], &[[7]]), &[byte]);
+        if byte > MOST_LOADS {
+            check_sheet_refused(&one_farm, 10);
+            continue;
+        }
+        let loads = u32::from(byte.max(1));
+        let records = |total| with_farm_byte(plan(&[(0, 5)], &[(0, 7)], total, 0), byte);
+        check_plan(&one_farm, Call::OpenPlan, &records(5 + 7 * loads), 0);
+        check_plan(&one_farm, Call::Price { set: 1 }, &records(5 + 7 * loads), 0);
+        check_plan(&one_farm, Call::LimitedPlan { k: 1 }, &records(7 * loads), 0);
+    }
+}
+
+/// One byte that differs within a farm, at the first, middle and last haul of each farm, beside others that are the same.
+#[test]
+fn loads_that_differ_within_a_farm() {
+    for record in 3..12 {
+        for (byte, others) in [(1, 0), (0, 1), (20, 19), (21, 20), (255, 0)] {
+            let mut differing = with_loads(sheet_s(), &[others; 3]);
+            differing[8 * record + 3] = byte;
+            check_sheet_refused(&differing, 10);
+        }
+    }
+}
+
+/// The most that any plan costs: 32 × 50,000,000 and 128 × 20 × 1,000,000 cents.
+#[test]
+fn the_highest_amounts_with_the_most_loads() {
+    let dearest = with_loads(even_sheet(32, 128, HIGHEST_FEE, HIGHEST_HAUL), &[MOST_LOADS; 128]);
+    let open: Vec<(usize, u32)> = (0..32).map(|yard| (yard, HIGHEST_FEE)).collect();
+    let records = |open, total| with_farm_byte(plan(open, &[(0, HIGHEST_HAUL); 128], total, 0), MOST_LOADS);
+    check_plan(&dearest, Call::Price { set: u32::MAX }, &records(&open, 4_160_000_000), 0);
+    check_plan(&dearest, Call::OpenPlan, &records(&open[..1], 2_610_000_000), 0);
+    check_plan(&dearest, Call::LimitedPlan { k: 32 }, &records(&open, 2_560_000_000), 0);
+}
+
+/// The four-point rule is about one load: whatever the loads, 1, 1 and 1, 3 keep it and 1, 1 and 1, 4 break it.
+#[test]
+fn the_four_point_rule_with_loads() {
+    for loads in [[0, 0], [1, 20], [20, 1], [20, 20], [2, 3]] {
+        check_read(&with_loads(sheet(&[0, 0], &[[1, 1], [1, 3]]), &loads), 2, 2);
+        check_sheet_refused(&with_loads(sheet(&[0, 0], &[[1, 1], [1, 4]]), &loads), 6);
+    }
+}
+
 #[test]
 fn the_counts_of_records() {
     check_read(&even_sheet(32, 128, 1, 1), 32, 128);
@@ -254,7 +214,9 @@ fn number_for_wrong_byte(record: usize, byte: usize, value: u8) -> u8 {
         (0, 3..=5) => 3,
         (0, _) => 2,
         (1, 0..=2) => 3,
-        (2, 0..=2) | (3, _) => 2,
+        (2 | 3, 0..=2) => 2,
+        // The other hauls of the farm have 0.
+        (3, _) => 10,
         _ => 4,
     }
 }

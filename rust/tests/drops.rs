@@ -4,17 +4,18 @@
 mod compare;
 
 use compare::{every_call, Name, Tally};
-use planner::format::{amount, HIGHEST_FEE, RECORD, YARD};
+use planner::format::{amount, HIGHEST_FEE, MOST_LOADS, RECORD, YARD};
 use planner::literal::{open_moves, Move};
 use planner::random::Random;
-use planner::samples::{kept, kept_moves, manhattan, plane, Sample};
+use planner::samples::{any_loads, kept, kept_moves, manhattan, plane, put_loads, Sample};
 use planner::table::Table;
 
 const KEPT: usize = 13;
-/// Of each kept sheet with fees a little changed, which question 6 does not look at.
-const OTHER_FEES: u64 = 12;
+/// Of each kept sheet with fees a little changed or with loads, which question 6 does not look at.
+const CHANGED: u64 = 12;
 /// At least so many of them drop a yard too.
 const LEAST_DROPS: u64 = 100;
+const LEAST_DROPS_WITH_LOADS: u64 = 60;
 /// Sheets that one run of the search looks at.
 const TRIES: u64 = 300_000;
 
@@ -35,19 +36,28 @@ fn kept_sheets_drop_a_yard_and_agree() {
 
 #[test]
 fn kept_sheets_with_other_fees_agree() {
+    changed_sheets_agree(with_other_fees, LEAST_DROPS);
+}
+
+#[test]
+fn kept_sheets_with_loads_agree() {
+    changed_sheets_agree(with_loads, LEAST_DROPS_WITH_LOADS);
+}
+
+fn changed_sheets_agree(change: fn(&mut Random, &Sample) -> Sample, least_drops: u64) {
     let mut tally = Tally::default();
     let mut dropping = 0;
     for (number, sample) in (0..).zip(kept().expect("sheets/drops")) {
-        for seed in number * OTHER_FEES..(number + 1) * OTHER_FEES {
-            let changed = with_other_fees(&mut Random::new(seed), &sample);
+        for seed in number * CHANGED..(number + 1) * CHANGED {
+            let changed = change(&mut Random::new(seed), &sample);
             every_call(&changed, seed, &mut tally);
             dropping += u64::from(drops(&open_moves(&changed.sheet)) > 0);
         }
     }
     tally.print();
     println!("{dropping} open plans that drop a yard");
-    assert_eq!(tally.count(Name::Read, 0), KEPT as u64 * OTHER_FEES, "sheets that are accepted");
-    assert!(dropping >= LEAST_DROPS, "{dropping} open plans that drop a yard");
+    assert_eq!(tally.count(Name::Read, 0), KEPT as u64 * CHANGED, "sheets that are accepted");
+    assert!(dropping >= least_drops, "{dropping} open plans that drop a yard");
 }
 
 /// One to three fees up or down by a twentieth or less.
@@ -62,6 +72,26 @@ fn with_other_fees(random: &mut Random, kept: &Sample) -> Sample {
         sheet[at + 4..at + RECORD].copy_from_slice(&changed.to_le_bytes());
     }
     Sample { name: format!("{} with other fees", kept.name), sheet, reading: None }
+}
+
+/// Fees times some number and as many loads for each farm, so that the search makes the same moves; or any loads with these fees.
+fn with_loads(random: &mut Random, kept: &Sample) -> Sample {
+    let mut sheet = kept.sheet.clone();
+    let yards = sheet.chunks(RECORD).take_while(|record| record[0] == YARD).count();
+    let farms = sheet.len() / RECORD / yards - 1;
+    let times = random.between(2, MOST_LOADS.into()) as u8;
+    let loads = if random.one_in(2) { vec![times; farms] } else { any_loads(random, farms) };
+    raise_fees(&mut sheet[..RECORD * yards], times.into());
+    put_loads(&mut sheet, yards, &loads);
+    Sample { name: format!("{} with loads", kept.name), sheet, reading: None }
+}
+
+/// Every fee so many times as high, up to the highest.
+fn raise_fees(fees: &mut [u8], times: u32) {
+    for fee in fees.chunks_mut(RECORD) {
+        let raised = (times * amount(fee)).min(HIGHEST_FEE);
+        fee[4..].copy_from_slice(&raised.to_le_bytes());
+    }
 }
 
 /// The moves as the file beside a kept sheet has them.

@@ -6,10 +6,15 @@ use planner::{csv, library};
 use std::fs;
 use std::path::{Path, PathBuf};
 
-const EXAMPLES: [&str; 2] = ["s", "boerde"];
+const EXAMPLES: [&str; 3] = ["s", "boerde", "loads"];
 const EARTH_RADIUS: f64 = 6371.0;
 const ROAD_FACTOR: f64 = 1.3;
 const CENTS_FOR_A_KILOMETRE: f64 = 9000.0;
+
+/// The places of the example with loads along its road, in kilometres, and the price of a load for each.
+const YARDS_ALONG_ROAD: [u32; 4] = [4, 18, 30, 44];
+const FARMS_ALONG_ROAD: [u32; 6] = [0, 11, 24, 33, 37, 50];
+const CENTS_ALONG_ROAD: u32 = 300;
 
 fn file(name: &str) -> PathBuf {
     Path::new(env!("CARGO_MANIFEST_DIR")).join("../sheets").join(name)
@@ -120,4 +125,47 @@ fn the_table_of_the_boerde_comes_from_its_places() {
     assert_eq!(table.hauls, farms.iter().map(hauls).collect::<Vec<Vec<u32>>>());
     assert_eq!(names.yards, yards.iter().map(|yard| yard.name.clone()).collect::<Vec<_>>());
     assert_eq!(names.farms, farms.iter().map(|farm| farm.name.clone()).collect::<Vec<_>>());
+}
+
+#[test]
+fn the_hauls_of_the_example_with_loads_come_from_its_road() {
+    let hauls = |farm: u32| YARDS_ALONG_ROAD.map(|yard| CENTS_ALONG_ROAD * yard.abs_diff(farm)).to_vec();
+    let (table, ..) = typed("loads");
+    assert_eq!(table.hauls, FARMS_ALONG_ROAD.map(hauls));
+    assert_eq!(table.loads, [3, 20, 0, 18, 1, 12]);
+}
+
+#[test]
+fn with_one_load_for_each_farm_the_example_with_loads_leases_one_yard() {
+    let (table, ..) = typed("loads");
+    let mut area = [0; MOST_AREA];
+    let written = library::open_plan(&Table::new(table.fees, table.hauls).sheet(), &mut area).unwrap();
+    let lines = lines(&area[..written.bytes]);
+    assert!(lines.starts_with("open 2 45000\nfarm 0 2 9000\n") && lines.ends_with("total 70500\nmoves 0\n"), "{lines}");
+}
+
+#[test]
+fn the_tool_shows_loads_and_counts_them_in_every_sum() {
+    let (_, names, sheet) = typed("loads");
+    let cases = [
+        (Request::Show, "farm               loads  one load to yard, cents:      0     1     2      3\n"),
+        (Request::Show, "   2  Elm Farm         1                             6000  1800  1800   6000\n"),
+        (Request::LimitedPlan(2), "hauls               134700\ntotal, hauls alone  134700\n"),
+        (Request::Price(0b10), "18             1  Old Harbour                     4500                     81000\n"),
+        (
+            Request::Price(0b10),
+            "fees                    90000\nhauls                  261900\ntotal, fees and hauls  351900\n",
+        ),
+    ];
+    for (request, part) in cases {
+        let said = said(request, &sheet, &names);
+        assert!(said.status == ACCEPTED && said.text.contains(part), "{part}, in: {}", said.text);
+    }
+}
+
+#[test]
+fn loads_of_one_are_left_out() {
+    let (table, names, _) = typed("s");
+    let said = said(Request::OpenPlan, &Table { loads: vec![1, 0, 1], ..table }.sheet(), &names);
+    assert_eq!((said.status, said.text), (ACCEPTED, text("s.txt")));
 }

@@ -1,13 +1,18 @@
 //! Question 6 by itself: reading against its four loops, on sheets of many shapes that keep the rule narrowly or break it.
-use planner::format::{HIGHEST_HAUL, MOST_FARMS, MOST_YARDS};
+//! The rule is about one load (paper 2 of document 02): loads change no answer.
+use planner::format::{HIGHEST_HAUL, MOST_FARMS, MOST_LOADS, MOST_YARDS};
 use planner::random::Random;
 use planner::table::Table;
-use planner::{four_loops, library, samples, Counts};
+use planner::{four_loops, library, samples, Answer, Counts};
 
 const SHEETS: u64 = 3_000;
 const FULL: u64 = 12;
 /// At least so many of each.
 const LEAST: u64 = 4_000;
+/// Sheets that keep the rule to the cent, and as many that break it by one.
+const TO_THE_CENT: u64 = 600;
+/// For at least so many of each with loads, the rule on hauls times loads would answer otherwise.
+const LEAST_OTHERWISE: u64 = 600;
 
 #[derive(Default)]
 struct Seen {
@@ -22,10 +27,10 @@ fn reading_agrees_with_four_loops() {
         let mut random = Random::new(seed);
         let (yards, farms) = shape(&mut random, seed < FULL);
         let mut table = narrow(&mut random, yards, farms);
-        compare(&table, seed, &mut seen);
+        compare(&mut random, &mut table, seed, &mut seen);
         for _ in 0..3 {
             shift_one(&mut random, &mut table);
-            compare(&table, seed, &mut seen);
+            compare(&mut random, &mut table, seed, &mut seen);
         }
     }
     println!("{} sheets keep the rule, {} break it", seen.kept, seen.broken);
@@ -62,10 +67,56 @@ fn shift_one(random: &mut Random, table: &mut Table) {
     *haul = if random.one_in(2) { (*haul + by).min(HIGHEST_HAUL) } else { haul.saturating_sub(by) };
 }
 
-fn compare(table: &Table, seed: u64, seen: &mut Seen) {
+/// Reads the sheet without loads and with any.
+fn compare(random: &mut Random, table: &mut Table, seed: u64, seen: &mut Seen) {
     let counts = Counts { yards: table.fees.len(), farms: table.hauls.len() };
     let keeps = four_loops::holds(&table.hauls, counts.yards);
     let expected = if keeps { Ok(counts) } else { Err(6) };
+    table.loads.fill(0);
     assert_eq!(library::read(&table.sheet()), expected, "seed {seed}, {counts:?}");
+    table.loads.fill_with(|| random.between(0, MOST_LOADS.into()) as u8);
+    assert_eq!(library::read(&table.sheet()), expected, "seed {seed}, {counts:?}, loads {:?}", table.loads);
     *(if keeps { &mut seen.kept } else { &mut seen.broken }) += 1;
+}
+
+#[test]
+fn loads_change_no_answer() {
+    // Sheets with loads that keep the rule, then ones that break it, of which hauls times loads would answer otherwise.
+    let mut otherwise = [0, 0];
+    for seed in 0..TO_THE_CENT {
+        let mut random = Random::new(seed);
+        let (yards, farms) = (random.between(2, 7) as usize, random.between(2, 9) as usize);
+        let a_below_b = random.one_in(2);
+        let kept = samples::kept_to_the_cent(&mut random, yards, farms, a_below_b);
+        let broken = samples::broken_by_one_cent(&mut random, yards, farms, a_below_b);
+        otherwise[0] += read_with_loads(kept.sheet, yards, farms, Ok(Counts { yards, farms }));
+        otherwise[1] += read_with_loads(broken.sheet, yards, farms, Err(6));
+    }
+    println!(
+        "hauls times loads would break the rule in {} sheets that keep it, and keep it in {}",
+        otherwise[0], otherwise[1]
+    );
+    assert!(otherwise.iter().all(|&count| count >= LEAST_OTHERWISE), "{otherwise:?}");
+}
+
+/// Gives each farm in turn one load beside two for all others, and two beside one; counts how often the rule on hauls times
+/// loads would answer otherwise.
+fn read_with_loads(mut sheet: Vec<u8>, yards: usize, farms: usize, expected: Answer<Counts>) -> u64 {
+    let mut otherwise = 0;
+    for (farm, (its, others)) in (0..farms).flat_map(|farm| [(farm, (1, 2)), (farm, (2, 1))]) {
+        let mut loads = vec![others; farms];
+        loads[farm] = its;
+        samples::put_loads(&mut sheet, yards, &loads);
+        assert_eq!(library::read(&sheet), expected, "loads {loads:?}, {sheet:?}");
+        let hauls = times_loads(four_loops::hauls_of(&sheet, yards), &loads);
+        otherwise += u64::from(four_loops::holds(&hauls, yards) != expected.is_ok());
+    }
+    otherwise
+}
+
+fn times_loads(mut hauls: four_loops::Hauls, loads: &[u8]) -> four_loops::Hauls {
+    for (hauls, &loads) in hauls.iter_mut().zip(loads) {
+        hauls.iter_mut().for_each(|haul| *haul *= u32::from(loads));
+    }
+    hauls
 }

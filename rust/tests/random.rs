@@ -15,8 +15,10 @@ const SMALL_TIED: usize = 300;
 const UNREPAIRED: usize = 200;
 const TIGHT: usize = 60;
 const BROKEN: usize = 100;
-/// Of each of questions 1 to 5.
+/// Of each of questions 1 to 5 and 10.
 const FAULTY: usize = 80;
+/// Of question 10 beside each of questions 1 to 6.
+const BESIDE_10: usize = 60;
 const SEVERAL_FAULTS: usize = 250;
 const DAMAGED: usize = 400;
 const RANDOM_BYTES: usize = 60;
@@ -33,12 +35,19 @@ const LEAST_STRETCHES: u64 = 1_000;
 /// Farms in the plans of each call whose yard was chosen among equal hauls by the fee, and as many by the number.
 const LEAST_CHOSEN: u64 = 500;
 
+/// Plans of each call with loads above 1, and farms in its plans by byte 0, 1 and above.
+const LEAST_WITH_LOADS: u64 = 500;
+/// Plans of both searches with other yards than without loads.
+const LEAST_OTHER_YARDS: u64 = 150;
+/// Refusals with 10 of each call where it is the only fault, beside question 5, and beside question 6.
+const LEAST_WITH_10: u64 = 40;
+
 /// The answers that each call can give, 0 for accepted.
 const ANSWERS: [(Name, &[u8]); 4] = [
-    (Name::Read, &[0, 1, 2, 3, 4, 5, 6]),
-    (Name::Price, &[0, 1, 2, 3, 4, 5, 6, 8, 9]),
-    (Name::OpenPlan, &[0, 1, 2, 3, 4, 5, 6, 9]),
-    (Name::LimitedPlan, &[0, 1, 2, 3, 4, 5, 6, 7, 9]),
+    (Name::Read, &[0, 1, 2, 3, 4, 10, 5, 6]),
+    (Name::Price, &[0, 1, 2, 3, 4, 10, 5, 6, 8, 9]),
+    (Name::OpenPlan, &[0, 1, 2, 3, 4, 10, 5, 6, 9]),
+    (Name::LimitedPlan, &[0, 1, 2, 3, 4, 10, 5, 6, 7, 9]),
 ];
 
 #[test]
@@ -70,7 +79,10 @@ fn sheets(round: u64) -> Vec<(u64, Sample)> {
         (FULL, |random| samples::accepted(random, MOST_YARDS, MOST_FARMS)),
     ];
     makers.extend([(TIGHT, tight as Maker), (BROKEN, broken)]);
-    makers.extend([fault::<1>, fault::<2>, fault::<3>, fault::<4>, fault::<5>].map(|make| (FAULTY, make as _)));
+    let faults: [Maker; 6] = [fault::<1>, fault::<2>, fault::<3>, fault::<4>, fault::<10>, fault::<5>];
+    makers.extend(faults.map(|make| (FAULTY, make)));
+    let beside: [Maker; 6] = [beside::<1>, beside::<2>, beside::<3>, beside::<4>, beside::<5>, beside::<6>];
+    makers.extend(beside.map(|make| (BESIDE_10, make)));
     makers.extend([(SMALL_TIED, tied as Maker), (FULL_TIED, |random| samples::tied(random, MOST_YARDS, MOST_FARMS))]);
     let made = makers.into_iter().flat_map(|(count, make)| std::iter::repeat_n(make, count));
     let drawn = made.enumerate().map(|(number, make)| {
@@ -118,9 +130,28 @@ fn two_or_more(random: &mut Random) -> (usize, usize) {
 fn fault<const QUESTION: u8>(random: &mut Random) -> Sample {
     if random.one_in(16) {
         let (yards, farms) = (MOST_YARDS - random.between(0, 2) as usize, MOST_FARMS - random.between(0, 2) as usize);
-        return samples::faulty(random, QUESTION, yards, farms);
+        return samples::faulty(random, &[QUESTION], yards, farms);
     }
-    shaped(random, |random, yards, farms| samples::faulty(random, QUESTION, yards, farms))
+    shaped(random, |random, yards, farms| samples::faulty(random, &[QUESTION], yards, farms))
+}
+
+/// A fault of question 10 beside one of another question.
+fn beside<const QUESTION: u8>(random: &mut Random) -> Sample {
+    let (yards, farms) = two_or_more(random);
+    samples::faulty(random, &[QUESTION, 10], yards, farms)
+}
+
+/// Every call that writes plans had to do with loads often enough.
+fn enough_loads(tally: &Tally, rounds: u64) {
+    for name in [Name::Price, Name::OpenPlan, Name::LimitedPlan] {
+        let seen = tally.loads.of(name);
+        let least = rounds * LEAST_WITH_LOADS;
+        assert!(seen.plans >= least, "{name:?}: {} plans with loads", seen.plans);
+        assert!(seen.farms.iter().all(|&count| count >= least), "{name:?}: farms by byte {:?}", seen.farms);
+        let searches = !matches!(name, Name::Price);
+        let other_yards = seen.other_yards >= rounds * LEAST_OTHER_YARDS;
+        assert!(!searches || other_yards, "{name:?}: {} plans with other yards by loads", seen.other_yards);
+    }
 }
 
 /// Every answer occurred often enough, and choices among equal hauls and the farms' stretches too.
@@ -132,6 +163,11 @@ fn enough(tally: &Tally, rounds: u64) {
             let count = tally.count(name, answer);
             assert!(count >= rounds * least, "{name:?} gave answer {answer} {count} times only");
         }
+        let refused = tally.loads.of(name).refused;
+        assert!(
+            refused.iter().all(|&count| count >= rounds * LEAST_WITH_10),
+            "{name:?}: refused with 10 alone, beside 5, beside 6: {refused:?}"
+        );
     }
     for (name, [_, by_fee, by_number]) in tally.choices() {
         let least = rounds * LEAST_CHOSEN;
@@ -140,6 +176,7 @@ fn enough(tally: &Tally, rounds: u64) {
             "{name:?}: {by_fee} yards by the fee, {by_number} by the number"
         );
     }
+    enough_loads(tally, rounds);
     assert!(tally.whole_stretches >= rounds * LEAST_STRETCHES, "{} whole stretches", tally.whole_stretches);
     assert!(tally.empty_stretches >= rounds * LEAST_STRETCHES, "{} empty stretches", tally.empty_stretches);
 }

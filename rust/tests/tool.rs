@@ -42,8 +42,13 @@ fn with_fee(fee: u32) -> Vec<u8> {
     table.sheet()
 }
 
+/// S with the byte of each farm's loads.
+fn with_loads(loads: [u8; 3]) -> Vec<u8> {
+    Table { loads: loads.to_vec(), ..s() }.sheet()
+}
+
 fn with_hauls(rows: [[u32; 2]; 2]) -> Vec<u8> {
-    Table { fees: vec![0, 0], hauls: rows.map(|row| row.to_vec()).to_vec() }.sheet()
+    Table::new(vec![0, 0], rows.map(|row| row.to_vec()).to_vec()).sheet()
 }
 
 /// S with one record more at the end.
@@ -85,9 +90,9 @@ fn every_fault_of_a_sheet_is_found_in_its_record() {
         (vec![0; 33_032], 1, &[], "The length is 33032 bytes"),
         (damaged(&[])[..95].to_vec(), 1, &[], "whole records 11, bytes left over 7"),
         (damaged(&[(40, 0x5A)]), 2, &[5], "at byte 40: 5A 02 00 00 09 00 00 00 hex: neither a yard nor a haul"),
-        (damaged(&[(43, 7)]), 2, &[5], "Its byte 3 is 07 hex. Asked: zero."),
+        (damaged(&[(11, 7)]), 2, &[1], "It is a yard and its byte 3 is 07 hex. Asked: zero."),
         (damaged(&[(10, 255)]), 2, &[1], "It is a yard and its byte 2 is FF hex"),
-        (damaged(&[(43, 7), (72, 0), (1, 9), (36, 1)]), 2, &[5], "Its byte 3 is 07"),
+        (damaged(&[(19, 7), (72, 0), (1, 9), (36, 1)]), 2, &[2], "its byte 3 is 07"),
         (damaged(&[(0, 0x48)]), 3, &[0], "No yard stands first"),
         (damaged(&[(17, 1)]), 3, &[2], "Its number is 1. Asked here: 2."),
         (damaged(&[(40, 0x59), (17, 7)]), 3, &[2], "Its number is 7. Asked here: 2."),
@@ -115,6 +120,31 @@ fn every_fault_of_a_sheet_is_found_in_its_record() {
 }
 
 #[test]
+fn every_fault_of_loads_is_found_in_its_record() {
+    let far = |loads: u8| Table { loads: vec![3, loads], ..one_far() }.sheet();
+    let cases: [(Vec<u8>, u8, &[usize], &str); 12] = [
+        (with_loads([0, 21, 0]), 10, &[6], "Its byte 3, the loads of farm 1, is 21. Asked: 0 to 20."),
+        (with_loads([20, 1, 255]), 10, &[9], "a haul, yard 0, farm 2, loads 255, amount 9."),
+        (damaged(&[(43, 1)]), 10, &[5], "is 1; that of the farm's first record, record 3, is 0. Asked: the same byte"),
+        (damaged(&[(51, 1)]), 10, &[7], "is 0; that of the farm's first record, record 6, is 1. Asked: the same byte"),
+        (damaged(&[(43, 21), (27, 5)]), 10, &[4], "is 0; that of the farm's first record, record 3, is 5."),
+        (damaged(&[(91, 21), (83, 255)]), 10, &[10], "the loads of farm 2, is 255. Asked: 0 to 20."),
+        (damaged(&[(43, 1), (39, 1), (7, 9)]), 10, &[5], "is 1; that of the farm's first record"),
+        (far(21), 10, &[6], "the loads of farm 1, is 21."),
+        (far(20), 6, &[7, 4, 3, 6], "The last three come to 3; the first is more by 1."),
+        (damaged(&[(43, 1), (41, 1)]), 4, &[5], "a haul, yard 1, farm 0, loads 1, amount 9."),
+        (damaged(&[(43, 1)])[..88].to_vec(), 4, &[], "yards 3, hauls 8, which is farms 2, hauls left over 2"),
+        (damaged(&[(43, 21), (3, 1)]), 2, &[0], "It is a yard and its byte 3 is 01 hex"),
+    ];
+    for (sheet, question, records, part) in cases {
+        assert_fault(&sheet, Given::default(), question, records, part);
+    }
+    let beside = Given { k: Some(0), area: Some(0), ..Given::default() };
+    assert_fault(&with_loads([0, 21, 0]), beside, 10, &[6], "the loads of farm 1, is 21.");
+    assert_fault(&with_loads([0, 20, 0]), beside, 7, &[], "k is 0.");
+}
+
+#[test]
 fn every_fault_of_what_is_given_beside_a_sheet_is_found() {
     let lent = Given { area: Some(64), ..Given::default() };
     let cases = [
@@ -138,7 +168,8 @@ fn the_tool_and_the_library_agree_on_damaged_sheets() {
     for _ in 0..20_000 {
         let (yards, farms) = (random.between(1, 4), random.between(1, 5));
         let amounts = |random: &mut Random| (0..yards).map(|_| random.between(4, 8) as u32).collect::<Vec<_>>();
-        let table = Table { fees: amounts(&mut random), hauls: (0..farms).map(|_| amounts(&mut random)).collect() };
+        let mut table = Table::new(amounts(&mut random), (0..farms).map(|_| amounts(&mut random)).collect());
+        table.loads.fill_with(|| random.between(0, 20) as u8);
         let mut sheet = table.sheet();
         for _ in 0..random.between(0, 3) {
             let at = random.between(0, sheet.len() as u64 - 1) as usize;
@@ -152,15 +183,20 @@ fn the_tool_and_the_library_agree_on_damaged_sheets() {
         assert_eq!(found, number(&sheet, &given), "{sheet:?} {given:?}");
         *seen.entry(found).or_insert(0) += 1;
     }
-    for question in std::iter::once(None).chain((1..=9).map(Some)) {
+    for question in std::iter::once(None).chain((1..=10).map(Some)) {
         assert!(seen.get(&question).is_some_and(|&times| times >= 50), "{question:?} in {seen:?}");
     }
 }
 
 #[test]
 fn a_number_without_its_fault_is_called_a_defect() {
-    let cases =
-        [(6, s().sheet(), "no fault at all"), (2, shorter(1), "a fault of question 4"), (99, shorter(1), "a defect")];
+    let cases = [
+        (6, s().sheet(), "no fault at all"),
+        (2, shorter(1), "a fault of question 4"),
+        (2, with_loads([0, 21, 0]), "a fault of question 10"),
+        (10, with_loads([0, 20, 0]), "no fault at all"),
+        (99, shorter(1), "a defect"),
+    ];
     for (number, sheet, part) in cases {
         let said = outcome(Err(number), &sheet, &Given::default(), &Names::default());
         assert_eq!(said.status, 3);
@@ -174,6 +210,19 @@ fn a_refusal_names_yards_and_farms() {
     let said = said(Request::OpenPlan, &with_hauls([[1, 1], [1, 4]]), &names);
     assert_eq!(said.status, 1);
     assert!(said.text.contains("a is yard 1 (South), b is yard 0 (North), p is farm 0 (Hill), q is farm 1 (Mill)."));
+}
+
+#[test]
+fn a_refusal_of_loads_is_told_in_these_words() {
+    let names = Names { yards: vec![], farms: vec!["Hill".into(), "Mill".into()] };
+    let said = outcome(Err(10), &with_loads([20, 21, 0]), &Given::default(), &names);
+    let text = "\
+refused 10
+Question 10: Loads (paper 2): is byte 3 of every haul record at most 20, and the same in all of a farm's records? No.
+Record 6 (counted from 0), at byte 48: 48 00 01 15 05 00 00 00 hex: a haul, yard 0, farm 1, loads 21, amount 5.
+Its byte 3, the loads of farm 1 (Mill), is 21. Asked: 0 to 20.
+";
+    assert_eq!((said.status, &said.text[..]), (1, text));
 }
 
 fn sheet(words: &[&str]) -> Output {
@@ -214,4 +263,20 @@ fn the_tool_makes_shows_and_plans_with_these_statuses() {
     }
     assert_eq!(fs::read(folder.join("s.sheet")).unwrap(), s().sheet());
     assert!(!folder.join("none.sheet").exists());
+}
+
+#[test]
+fn the_tool_makes_tables_with_loads_and_tells_their_faults() {
+    let cases = [
+        ("cents,loads,A\nfee,,1\nF,20,5\nG,,6\n", 0, "accepted: yards 1, farms 2"),
+        ("cents,loads,A\nfee,,1\nF,3,5\nG,21,6\n", 1, "Its byte 3, the loads of farm 1 (G), is 21. Asked: 0 to 20."),
+        ("cents,loads,A\nfee,,1\nF,256,5\n", 1, "loads.csv: line 3, column 2: under loads: 256 is more than the byte"),
+        ("cents,A,loads\nfee,1,\nF,5,2\n", 1, "loads.csv: line 1, column 3: the column of loads is the second one"),
+    ];
+    for (table, status, part) in cases {
+        fs::write(Path::new(env!("CARGO_TARGET_TMPDIR")).join("loads.csv"), table).unwrap();
+        let output = sheet(&["make", "loads.csv", "loads.sheet"]);
+        let told = String::from_utf8(output.stderr).unwrap();
+        assert!(output.status.code() == Some(status) && told.contains(part), "{table}: {told}");
+    }
 }

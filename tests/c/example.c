@@ -1,4 +1,5 @@
-/* The planner from C: reads document 01's sheet S, prices {0, 2}, and makes both plans; and an open plan at the highest fee and haul. */
+/* The planner from C: reads document 01's sheet S, prices {0, 2}, and makes both plans; and open plans at the highest fee and haul and with
+ * loads. */
 #include "planner.h"
 
 #include <stdio.h>
@@ -16,6 +17,14 @@ static const uint8_t sheet[96] = {
 /* one yard and one farm, at the highest fee and haul: 50,000,000 and 1,000,000 */
 static const uint8_t dearest[16] = {0x59, 0, 0, 0, 0x80, 0xF0, 0xFA, 0x02, 0x48, 0, 0, 0, 0x40, 0x42, 0x0F, 0x00};
 
+/* fees 1 and 8, and a farm of ten loads with hauls 2 and 1: yard 1 costs 8 + 10, yard 0 costs 1 + 20 */
+static const uint8_t ten_loads[32] = {
+    0x59, 0, 0, 0, 1, 0, 0, 0, 0x59, 1, 0, 0, 8, 0, 0, 0, 0x48, 0, 0, 10, 2, 0, 0, 0, 0x48, 1, 0, 10, 1, 0, 0, 0,
+};
+
+/* one yard and a farm of 21 loads */
+static const uint8_t too_many_loads[16] = {0x59, 0, 0, 0, 1, 0, 0, 0, 0x48, 0, 0, 21, 2, 0, 0, 0};
+
 static uint8_t area[PLANNER_MOST_AREA];
 
 /* The amount of the record that begins at a byte: bytes 4 to 7, lowest first. */
@@ -31,8 +40,11 @@ static void show(const char *call, uint64_t result)
         return;
     }
     printf("%s: bytes %zu, moves %u", call, planner_bytes(result), (unsigned)planner_moves(result));
-    for (size_t at = 0; at < planner_bytes(result); at += 8)
+    for (size_t at = 0; at < planner_bytes(result); at += 8) {
         printf("; %c %u %u %u", area[at], area[at + 1], area[at + 2], (unsigned)amount(area + at));
+        if (area[at + 3] != 0)
+            printf(" loads %u", area[at + 3]);
+    }
     printf("\n");
 }
 
@@ -73,6 +85,7 @@ int main(void)
 {
     show_counts("read", planner_read(sheet, sizeof sheet));
     show_counts("read, one byte less", planner_read(sheet, sizeof sheet - 1));
+    show_counts("read, 21 loads", planner_read(too_many_loads, sizeof too_many_loads));
     show_farm(1);
     show_farm(3);
     show("pricing {0, 2}", planner_price(sheet, sizeof sheet, 1u << 0 | 1u << 2, area, sizeof area));
@@ -81,6 +94,7 @@ int main(void)
     show("limited plan, k = 4", planner_limited_plan(sheet, sizeof sheet, 4, area, sizeof area));
     show("pricing nothing", planner_price(sheet, sizeof sheet, 0, area, sizeof area));
     show("open plan, dearest sheet", planner_open_plan(dearest, sizeof dearest, area, sizeof area));
+    show("open plan, ten loads", planner_open_plan(ten_loads, sizeof ten_loads, area, sizeof area));
     show_area_after_refusal();
     return 0;
 }

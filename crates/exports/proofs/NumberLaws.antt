@@ -10,7 +10,7 @@ use Rattle.model.specs.Instance.{Instance, totalCost}
 use Rattle.model.specs.Plans.{openStart, openSearch, limitedStart, limitedSearch}
 use Rattle.model.proofs.CountLaws.{count-le}
 use Rattle.questions.specs.Answers.{Answer, accepted, refused, ask, after}
-use Rattle.questions.specs.Sheet.{instanceOf}
+use Rattle.questions.specs.Sheet.{yards, farmByte, instanceOf}
 use Rattle.questions.specs.Reading.{Counts, counts, reading}
 use Rattle.questions.proofs.ReadingLaws.{refused-by}
 use Rattle.questions.proofs.AcceptedLaws.{WithinBounds, instance-is, door, accepts}
@@ -75,18 +75,19 @@ after-within s f h = go (reading s) refl
     go (refused k) e = let l = refused-by s k e in (l .0, omega (arith, l .1))
 
 -- the plan of an accepted sheet has fewer than 2^24 bytes
-plan-within : (I : Instance) (set total moves : ℕ) → WithinBounds I → moves < 2 ^ 32 → KeepsBits (answer (accepted (plan I set total moves)))
+plan-within : (I : Instance) (byte3 : ℕ → ℕ) (set total moves : ℕ) → WithinBounds I → moves < 2 ^ 32
+    → KeepsBits (answer (accepted (plan I byte3 set total moves)))
 unfolding answer
-plan-within I set total moves w small = (
-  omega (arith, plan-length I set total moves, count-le (I .facilities) (member set), w .few-facilities, w .few-clients),
+plan-within I byte3 set total moves w small = (
+  omega (arith, plan-length I byte3 set total moves, count-le (I .facilities) (member set), w .few-facilities, w .few-clients),
   small,
 )
 
 -- where question 9 comes last, before the plan
 ninth-within : (s : List ℕ) (room set total moves m n : ℕ) → reading s ≡ accepted (counts m n) → moves < 2 ^ 32
-    → KeepsBits (answer (ask (question9 m n room) 9 (accepted (plan (instanceOf s) set total moves))))
+    → KeepsBits (answer (ask (question9 m n room) 9 (accepted (plan (instanceOf s) (farmByte s (yards s)) set total moves))))
 ninth-within s room set total moves m n e small =
-    asked-within (question9 m n room) 9 _ (omega arith) (omega arith) (plan-within (instanceOf s) set total moves (door s m n e) small)
+    asked-within (question9 m n room) 9 _ (omega arith) (omega arith) (plan-within (instanceOf s) (farmByte s (yards s)) set total moves (door s m n e) small)
 
 -- the searches make fewer than 2^32 moves
 module _ (s : List ℕ) (m n : ℕ) (e : reading s ≡ accepted (counts m n)) where

@@ -20,7 +20,7 @@ const BIT_16: u64 = 65536;
 
 const BIT_32: u64 = 4294967296;
 
-// Asks questions 1 to 6. Bits 8 to 15: the yards; bits 16 to 23: the farms.
+// Asks questions 1 to 4, 10, 5 and 6. Bits 8 to 15: the yards; bits 16 to 23: the farms.
 #[no_mangle]
 pub extern "C" fn planner_read(sheet: &[u8]) -> u64
     ensures { λ r. ⌜ r ≡ countsNumber (reading (now (sheet .entry))) ⌝ }

@@ -87,6 +87,14 @@ example-three = refl
 
 -- ---- the order of the moves
 
+-- Document 02, paper 2: S with 2, 1 and 3 loads. Yard 1 alone hauls for 2 * 3 + 1 * 1 + 3 * 5; the rule is about one load.
+loaded : Instance
+loaded = record { facilities = 3; clients = 3; opening = row 1 4 2; service = table; weight = row 2 1 3 }
+
+example-loads : (serviceCost loaded (member 2) ≡ 22) × (totalCost loaded (member 2) ≡ 26) × (metric loaded ≡ true)
+unfolding loaded totalCost openingCost serviceCost nearest member least any sum metric fourPointBPQ fourPointPQ fourPointQ fourPoint allBelow
+example-loads = (refl, refl, refl)
+
 -- From {1, 2} of four: the adds of 0 and 3, the drops of 1 and 2, then the swaps by the number going out and by the number coming in: 0 and
 -- 3 for 1, 0 and 3 for 2.
 example-order : addDropSwap 4 6 ≡ 7 ∷ 14 ∷ 4 ∷ 2 ∷ 5 ∷ 12 ∷ 3 ∷ 10 ∷ []

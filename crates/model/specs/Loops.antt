@@ -24,9 +24,9 @@ unfoldable pub sum : ℕ → (ℕ → ℕ) → ℕ
 sum zero f = 0
 sum (suc n) f = sum n f + f n
 
--- what a term is at most where a loop adds up few of them in a number of 64 bits
+-- what a term is at most where a loop adds up few of them in a number of 64 bits: four bytes times one
 abbrev pub mostTerm : ℕ
-mostTerm = 2 ^ 32
+mostTerm = 2 ^ 40
 
 -- f 0 ++ f 1 ++ .. ++ f (n - 1)
 unfoldable pub join : ℕ → (ℕ → List ℕ) → List ℕ

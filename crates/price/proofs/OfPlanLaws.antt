@@ -13,7 +13,7 @@ use Rattle.model.proofs.Bools.{and-right}
 use Rattle.record.specs.Records.{splice}
 use Rattle.questions.specs.Bounds.{mostYards}
 use Rattle.questions.specs.Answers.{Answer, accepted}
-use Rattle.questions.specs.Sheet.{yards, instanceOf}
+use Rattle.questions.specs.Sheet.{yards, farmByte, instanceOf}
 use Rattle.questions.specs.Reading.{counts, reading}
 use Rattle.questions.proofs.ReadingLaws.{same-result, not-both, asked, read-first}
 use Rattle.questions.proofs.AcceptedLaws.{WithinBounds, door, facilities-read}
@@ -28,9 +28,10 @@ use Rattle.price.proofs.PlanFarmLaws.{FarmsSent, farms-sent}
 -- p is the plan of this set of the instance's facilities, which are 32 at most
 pub record PlanOf (set : ℕ) (p : Plan) : Type 0 where
   pub instance : Instance
+  pub byte3 : ℕ → ℕ
   pub total : ℕ
   pub moves : ℕ
-  pub is : p ≡ plan instance set total moves
+  pub is : p ≡ plan instance byte3 set total moves
   pub few : instance .facilities ≤ mostYards
   pub small : set < 2 ^ instance .facilities
 
@@ -40,10 +41,10 @@ module _ (outcome : Answer Plan) (p : Plan) (set : ℕ) (e : outcome ≡ accepte
   pub set-read-off : planSet (areaAfter outcome area) (length (p .bytes)) ≡ set
   unfolding areaAfter
   set-read-off =
-      let bytes = planBytes (f .instance) set (f .total) (f .moves) in
+      let bytes = planBytes (f .instance) (f .byte3) set (f .total) (f .moves) in
       let there : areaAfter outcome area ≡ splice area 0 bytes =
       ap (λ o. areaAfter o area) e ∙ ap (λ (q : Plan). splice area 0 (q .bytes)) (f .is) in
-      ap₂ planSet there (ap (λ (q : Plan). length (q .bytes)) (f .is)) ∙ plan-set (f .instance) set (f .total) (f .moves) area (f .few) (f .small)
+      ap₂ planSet there (ap (λ (q : Plan). length (q .bytes)) (f .is)) ∙ plan-set (f .instance) (f .byte3) set (f .total) (f .moves) area (f .few) (f .small)
 
 -- the call answers as the outcome says
 module _ (outcome : Answer Plan) (r : Planned) (area next : List ℕ)
@@ -73,7 +74,7 @@ module _ (outcome : Answer Plan) (r : Planned) (area next : List ℕ)
 module _ (s : List ℕ) (set room : ℕ) (p : Plan) (h : pricing s set room ≡ accepted p) where
   -- a plan is made where the questions are answered yes
   priced-when : (m : ℕ) × (n : ℕ) × (reading s ≡ accepted (counts m n)) × (question8 m set ≡ true)
-      × (p ≡ plan (instanceOf s) set (totalCost (instanceOf s) (member set)) 0)
+      × (p ≡ plan (instanceOf s) (farmByte s (yards s)) set (totalCost (instanceOf s) (member set)) 0)
   unfolding pricing
   priced-when =
       let r = read-first (reading s) _ p h in
@@ -95,6 +96,7 @@ module _ (s : List ℕ) (set room : ℕ) (p : Plan) (h : pricing s set room ≡ 
       let r = priced-when in
       record {
         instance = instanceOf s;
+        byte3 = farmByte s (yards s);
         total = totalCost (instanceOf s) (member set);
         moves = 0;
         is = r .4;

@@ -78,9 +78,9 @@ module _ (yard : ℕ) where
     unfolding openRecord
     shows-open i = cases (member set i) (λ e. rw e (shows-record _)) (λ e. rw e shows-none)
 
-    shows-farm : (j : ℕ) → Shows (farmRecord I set j) false
+    shows-farm : (byte3 : ℕ → ℕ) (j : ℕ) → Shows (farmRecord I byte3 set j) false
     unfolding farmRecord
-    shows-farm j = shows-record _
+    shows-farm byte3 j = shows-record _
 
     shows-total : (total : ℕ) → Shows (totalRecord I set total) false
     unfolding totalRecord
@@ -97,26 +97,26 @@ module _ (yard : ℕ) where
         rw (any-none (I .clients) (λ j. false) (λ j l. refl))
         (any-one (I .facilities) yard (member set) (member-below (I .facilities) set yard small))
 
-    shows-plan : (total moves : ℕ) → set < 2 ^ I .facilities → Shows (planBytes I set total moves) (member set yard)
+    shows-plan : (byte3 : ℕ → ℕ) (total moves : ℕ) → set < 2 ^ I .facilities → Shows (planBytes I byte3 set total moves) (member set yard)
     unfolding planBytes
-    shows-plan total moves small =
+    shows-plan byte3 total moves small =
         let opens = shows-join (I .facilities) (openRecord I set) (λ i. member set i && eqb i yard) shows-open in
-        let farms = shows-join (I .clients) (farmRecord I set) (λ j. false) shows-farm in
-        subst (Shows (planBytes I set total moves)) (all-shown small)
+        let farms = shows-join (I .clients) (farmRecord I byte3 set) (λ j. false) (shows-farm byte3) in
+        subst (Shows (planBytes I byte3 set total moves)) (all-shown small)
         (shows-append _ _ _ _ (shows-append _ _ _ _ (shows-append _ _ _ _ opens farms) (shows-total total)) (shows-moves moves))
 
-module _ (I : Instance) (set total moves : ℕ) (area : List ℕ) where
+module _ (I : Instance) (byte3 : ℕ → ℕ) (set total moves : ℕ) (area : List ℕ) where
   -- a yard has a record of kind 4F in the plan where it is in the set
   pub plan-opens : (yard : ℕ) → set < 2 ^ I .facilities
-      → any (length (planBytes I set total moves) / 8) (opensAt (splice area 0 (planBytes I set total moves)) yard) ≡ member set yard
+      → any (length (planBytes I byte3 set total moves) / 8) (opensAt (splice area 0 (planBytes I byte3 set total moves)) yard) ≡ member set yard
   plan-opens yard small =
-      let bytes = planBytes I set total moves in
-      let shown = shows-plan yard I set total moves small in
+      let bytes = planBytes I byte3 set total moves in
+      let shown = shows-plan yard I set byte3 total moves small in
       let count : length bytes / 8 ≡ shown .records = omega (arith, shown .whole) in
       rw (splice-front area bytes, count) (reads-before yard bytes (drop (length bytes) area) (member set yard) shown)
 
   pub plan-set : I .facilities ≤ mostYards → set < 2 ^ I .facilities
-      → planSet (splice area 0 (planBytes I set total moves)) (length (planBytes I set total moves)) ≡ set
+      → planSet (splice area 0 (planBytes I byte3 set total moves)) (length (planBytes I byte3 set total moves)) ≡ set
   unfolding planSet
   plan-set few small =
       sum-cong mostYards (λ yard l. ap (λ (b : Bool). on b (2 ^ yard)) (plan-opens yard small))

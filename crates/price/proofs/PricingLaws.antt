@@ -1,7 +1,7 @@
 -- Laws of the calls that write a plan: what each answers and leaves in the area, and the cases of pricing.
 use Prim.Native.Nat.{ℕ, _^_, _≤_, _<_}
 use native.Mathlib.Omega.{arith}
-use mathlib.Core.Path.{_≡_, refl, ap, ap₂, subst, _∙_}
+use mathlib.Core.Path.{_≡_, refl, sym, ap, ap₂, subst, _∙_}
 use mathlib.Core.Bool.{true, false}
 use mathlib.Core.List.{List}
 use borrow.Author.Tests.{le-leb, leb-true, lt-ltb, ltb-true}
@@ -14,7 +14,7 @@ use Rattle.model.proofs.Bools.{fails, and-left, and-right, and-both}
 use Rattle.model.proofs.SetLaws.{some-member, member-some, member-below, below-pow}
 use Rattle.record.specs.Records.{splice, amountEnd}
 use Rattle.questions.specs.Answers.{Answer, accepted, refused}
-use Rattle.questions.specs.Sheet.{instanceBy, instanceOf}
+use Rattle.questions.specs.Sheet.{yards, farmByte, instanceBy, instanceOf}
 use Rattle.questions.specs.Shape.{Shape}
 use Rattle.questions.specs.Reading.{counts, reading}
 use Rattle.questions.proofs.ReadingLaws.{same-result, not-both}
@@ -75,16 +75,16 @@ module _ (s : List ℕ) (set room : ℕ) where
     no-room q h = rw (e, q, h)
 
     pub priced-plan : question8 m set ≡ true → question9 m n room ≡ true
-        → pricing s set room ≡ accepted (plan (instanceOf s) set (totalCost (instanceOf s) (member set)) 0)
+        → pricing s set room ≡ accepted (plan (instanceOf s) (farmByte s (yards s)) set (totalCost (instanceOf s) (member set)) 0)
     unfolding pricing
     priced-plan q h = rw (e, q, h)
 
 -- ---- what the writer leaves, of a sheet and an area that are long enough
 
 pub writes-of : (s : List ℕ) (m n set total moves room : ℕ) → Shape s m n → question9 m n room ≡ true
-    → writing s m n set total moves room ≡ planBytes (instanceBy s m n) set total moves
+    → writing s m n set total moves room ≡ planBytes (instanceBy s m n) (farmByte s m) set total moves
 writes-of s m n set total moves room f q =
-    writes-plan s m n set total moves room (fits-within m n room (f .few-yards) (f .few-farms) ∙ q) (f .room)
+    writes-plan s m n set total moves room (fits-within m n room (f .some-yards) (f .few-yards) (f .few-farms) ∙ q) (f .room)
 
 module _ (s : List ℕ) (m n set total : ℕ) (e : reading s ≡ accepted (counts m n)) (t : total ≡ totalCost (instanceBy s m n) (member set)) where
   total-is : total ≡ totalCost (instanceOf s) (member set)
@@ -101,7 +101,8 @@ module _ (s : List ℕ) (m n set total : ℕ) (e : reading s ≡ accepted (count
   prices area next bytes q h long put =
       let form = accepts s m n e .has in
       let is = writes-of s m n set total 0 (length area) (shape-of form) h
-      ∙ ap₂ (λ I x. planBytes I set x 0) (instance-is form) total-is in
+      ∙ ap₂ (λ I b. planBytes I b set total 0) (instance-is form) (ap (farmByte s) (sym (form .yards-are)))
+      ∙ ap (λ (x : ℕ). planBytes (instanceOf s) (farmByte s (yards s)) set x 0) total-is in
       makes (pricing s set (length area)) area _ next bytes 0 (priced-plan s set (length area) m n e q h)
       (long ∙ ap length is) refl (put ∙ ap (splice area 0) is)
 

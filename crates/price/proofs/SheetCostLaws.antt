@@ -1,16 +1,16 @@
 -- Laws of costs on a sheet: the sums that the loops over yards and farms compute are those of the sheet's instance.
-use Prim.Native.Nat.{ℕ, _≤_, _<_}
+use Prim.Native.Nat.{ℕ, _*_, _≤_, _<_}
+use native.Mathlib.Nat.{mul-le-mul}
 use native.Mathlib.Omega.{arith}
 use mathlib.Core.Path.{_≡_, refl, ap, _∙_}
 use mathlib.Core.Bool.{Bool}
 use mathlib.Core.List.{List}
-use Rattle.model.specs.Loops.{on, sum}
+use Rattle.model.specs.Loops.{on, sum, mostTerm}
 use Rattle.model.specs.Instance.{nearest, openingCost, serviceCost}
 use Rattle.model.proofs.SumLaws.{Summed}
-use Rattle.model.proofs.CostLaws.{service-once}
 use Rattle.record.specs.declared.Record.{Record}
-use Rattle.record.specs.Records.{wholeRecordAt}
-use Rattle.questions.specs.Sheet.{fee, instanceBy}
+use Rattle.record.specs.Records.{wholeRecordAt, amountEnd}
+use Rattle.questions.specs.Sheet.{fee, farmByte, loadsOf, instanceBy}
 use Rattle.questions.specs.Shape.{Shape}
 use Rattle.record.proofs.RecordLaws.{whole}
 
@@ -28,6 +28,13 @@ module _ (s : List ℕ) (m n : ℕ) where
   unfolding openingCost instanceBy
   fees-sum S = refl
 
-  pub hauls-sum : (S : ℕ → Bool) → sum n (nearest (instanceBy s m n) S) ≡ serviceCost (instanceBy s m n) S
-  unfolding instanceBy
-  hauls-sum S = service-once (instanceBy s m n) (λ j. refl) S
+  pub hauls-sum : (S : ℕ → Bool) → sum n (λ j. loadsOf (farmByte s m j) * nearest (instanceBy s m n) S j) ≡ serviceCost (instanceBy s m n) S
+  unfolding serviceCost instanceBy
+  hauls-sum S = refl
+
+-- the loads that a byte tells, times a haul of four bytes
+pub loads-small : (loads byte haul : ℕ) → loads ≡ loadsOf byte → byte < 256 → haul < amountEnd → loads * haul ≤ mostTerm
+loads-small loads byte haul e b h =
+    let few : loads ≤ 255 = omega arith in
+    let one : haul ≤ 4294967295 = omega arith in
+    omega (arith, mul-le-mul few one)

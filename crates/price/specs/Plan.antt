@@ -10,7 +10,7 @@ use Rattle.model.specs.Sets.{count, member}
 use Rattle.model.specs.Instance.{Instance, nearest, assigned}
 use Rattle.record.specs.Records.{recordOf, recordAt, bytesOf}
 use Rattle.questions.specs.Bounds.{mostYards, mostFarms}
-use Rattle.questions.specs.Sheet.{instanceBy}
+use Rattle.questions.specs.Sheet.{farmByte, instanceBy}
 
 -- the kinds of a plan's records
 abbrev pub openKind : ℕ
@@ -29,9 +29,10 @@ movesKind = 0x4D
 unfoldable pub openRecord : Instance → ℕ → ℕ → List ℕ
 openRecord I set i = cond (member set i) (bytesOf (recordOf openKind i 0 0 (I .opening i))) []
 
--- "One of kind 41 hex for each farm by number (byte 1 its yard, byte 2 the farm, amount its haul)."
-unfoldable pub farmRecord : Instance → ℕ → ℕ → List ℕ
-farmRecord I set j = bytesOf (recordOf farmKind (assigned I (member set) j) j 0 (nearest I (member set) j))
+-- "One of kind 41 hex for each farm by number (byte 1 its yard, byte 2 the farm, amount its haul)." Document 02, paper 2: "the farm record
+-- repeats the byte" of its loads, `byte3` by farm, and "still shows the haul of one load".
+unfoldable pub farmRecord : Instance → (ℕ → ℕ) → ℕ → ℕ → List ℕ
+farmRecord I byte3 set j = bytesOf (recordOf farmKind (assigned I (member set) j) j (byte3 j) (nearest I (member set) j))
 
 -- "One of kind 54 hex (byte 1 the count of open yards, byte 2 n, amount the total)."
 unfoldable pub totalRecord : Instance → ℕ → ℕ → List ℕ
@@ -42,9 +43,9 @@ unfoldable pub movesRecord : ℕ → List ℕ
 movesRecord moves = bytesOf (recordOf movesKind 0 0 0 moves)
 
 -- "Records as above, in this order."
-unfoldable pub planBytes : Instance → ℕ → ℕ → ℕ → List ℕ
-planBytes I set total moves =
-    join (I .facilities) (openRecord I set) ++ join (I .clients) (farmRecord I set) ++ totalRecord I set total ++ movesRecord moves
+unfoldable pub planBytes : Instance → (ℕ → ℕ) → ℕ → ℕ → ℕ → List ℕ
+planBytes I byte3 set total moves =
+    join (I .facilities) (openRecord I set) ++ join (I .clients) (farmRecord I byte3 set) ++ totalRecord I set total ++ movesRecord moves
 
 -- 9. Is the lent plan area at least 8 × (m + n + 2) bytes?
 unfoldable pub question9 : ℕ → ℕ → ℕ → Bool
@@ -52,12 +53,12 @@ question9 m n room = leb (8 * (m + n + 2)) room
 
 -- the same, for counts that need not be those of an accepted sheet
 unfoldable pub planFits : ℕ → ℕ → ℕ → Bool
-planFits m n room = leb m mostYards && (leb n mostFarms && question9 m n room)
+planFits m n room = leb 1 m && (leb m mostYards && (leb n mostFarms && question9 m n room))
 
 -- the plan of a set on a sheet of m yards and n farms; nothing where the sheet has not so many records or the area is too small
 unfoldable pub writing : List ℕ → ℕ → ℕ → ℕ → ℕ → ℕ → ℕ → List ℕ
 writing s m n set total moves room =
-    cond (planFits m n room && leb (8 * (m + n * m)) (length s)) (planBytes (instanceBy s m n) set total moves) []
+    cond (planFits m n room && leb (8 * (m + n * m)) (length s)) (planBytes (instanceBy s m n) (farmByte s m) set total moves) []
 
 -- "Ours is the yards in the plan's records of kind 4F": is record i of the area one for this yard
 unfoldable pub opensAt : List ℕ → ℕ → ℕ → Bool

@@ -9,7 +9,7 @@ use Rattle.model.specs.Sets.{member}
 use Rattle.model.specs.Instance.{Instance, totalCost}
 use Rattle.record.specs.Records.{splice}
 use Rattle.questions.specs.Answers.{Answer, accepted, refused, ask, after}
-use Rattle.questions.specs.Sheet.{instanceOf}
+use Rattle.questions.specs.Sheet.{yards, farmByte, instanceOf}
 use Rattle.questions.specs.Reading.{reading}
 use Rattle.price.specs.Plan.{planBytes, question9, planSet}
 use Rattle.price.specs.declared.Planned.{Planned}
@@ -33,8 +33,8 @@ pub record Plan : Type 0 where
   pub bytes : List ℕ
   pub moves : ℕ
 
-abbrev pub plan : Instance → ℕ → ℕ → ℕ → Plan
-plan I set total moves = record { bytes = planBytes I set total moves; moves = moves }
+abbrev pub plan : Instance → (ℕ → ℕ) → ℕ → ℕ → ℕ → Plan
+plan I byte3 set total moves = record { bytes = planBytes I byte3 set total moves; moves = moves }
 
 -- what a call returns for the plan that it makes, or for its refusal
 unfoldable pub answer : Answer Plan → Answer Result
@@ -55,11 +55,11 @@ OfPlan r area P = (bytes moves : ℕ) → r ≡ Written bytes moves → P (planS
 unfoldable pub question8 : ℕ → ℕ → Bool
 question8 m set = leb 1 set && ltb set (2 ^ m)
 
--- Pricing the set on the sheet, with an area of so many bytes, asks questions 1 to 6, 8 and 9. The total is the full cost, the moves 0.
+-- Pricing the set on the sheet, with an area of so many bytes, asks what reading asks, then 8 and 9. The total is the full cost, the moves 0.
 unfoldable pub pricing : List ℕ → ℕ → ℕ → Answer Plan
 pricing s set room =
     after (reading s) (λ c. ask (question8 (c .yards) set) 8 (ask (question9 (c .yards) (c .farms) room) 9
-    (accepted (plan (instanceOf s) set (totalCost (instanceOf s) (member set)) 0))))
+    (accepted (plan (instanceOf s) (farmByte s (yards s)) set (totalCost (instanceOf s) (member set)) 0))))
 
 -- "A priced list keeps the set given" (demand 2): it is the set in the area.
 abbrev pub SetKept : ℕ → Planned → List ℕ → Type 0

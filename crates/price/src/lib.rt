@@ -1,6 +1,6 @@
 // Pricing: the nearest open yard of each farm, what a set of yards costs, and the plan of it in the caller's area.
 //
-// `price` asks questions 1 to 6, 8 and 9 of document 01 and writes the plan of the set that it is given. `write_plan`, with
+// `price` asks what reading asks and questions 8 and 9 of document 01, and writes the plan of the set that it is given. `write_plan`, with
 // `plan_fits`, writes the plan of any set for callers that have read the sheet. Every call is total.
 mod nearest;
 mod plan;

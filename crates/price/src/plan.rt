@@ -10,7 +10,7 @@ ghost use Rattle.model.specs.Instance.{nearest, openingCost, serviceCost, total
 ghost use Rattle.sets.specs.Members.{risingBelow};
 ghost use Rattle.record.specs.Records.{recordOf, bytesOf, splice};
 ghost use Rattle.questions.specs.Bounds.{mostYards, mostFarms};
-ghost use Rattle.questions.specs.Sheet.{fee, instanceBy};
+ghost use Rattle.questions.specs.Sheet.{fee, farmByte, loadsOf, instanceBy};
 ghost use Rattle.questions.specs.Shape.{Shape};
 ghost use Rattle.price.specs.Plan.{totalKind, openRecord, farmRecord, movesRecord, planFits, writing};
 use crate::nearest::nearest_of;
@@ -36,6 +36,9 @@ pub(crate) struct Totals {
 pub fn plan_fits(yards: usize, farms: usize, room: usize) -> bool
     ensures { λ r. ⌜ r ≡ planFits yards farms room ⌝ }
 {
+    if yards < 1 {
+        return false;
+    }
     if MOST_YARDS < yards {
         return false;
     }
@@ -81,7 +84,7 @@ pub(crate) fn put_yards_and_farms(
     requires { ⌜ Shape (now sheet) m n × (8 * (m + n) ≤ length (now area)) ⌝ }
     ensures open { λ r. ⌜ r .open_yards ≡ count m (member set) ⌝ }
     ensures cost { λ r. ⌜ r .cost ≡ totalCost (instanceBy (now (sheet .entry)) m n) (member set) ⌝ }
-    ensures area { λ r. ⌜ now (area .exit) ≡ splice (now (area .entry)) 0 (join m (openRecord (instanceBy (now (sheet .entry)) m n) set) ++ join n (farmRecord (instanceBy (now (sheet .entry)) m n) set)) ⌝ }
+    ensures area { λ r. ⌜ now (area .exit) ≡ splice (now (area .entry)) 0 (join m (openRecord (instanceBy (now (sheet .entry)) m n) set) ++ join n (farmRecord (instanceBy (now (sheet .entry)) m n) (farmByte (now (sheet .entry)) m) set)) ⌝ }
 {
     let open = sets::members_below(set, m);
     let list = open.list;
@@ -124,7 +127,7 @@ fn put_opens(sheet: &[u8], m: usize, n: usize, set: u32, yards: &[u8], area: &mu
     total
 }
 
-// Writes the record of a farm, and gives its haul.
+// Writes the record of a farm, with the haul of one load, and gives what all its loads cost.
 fn put_farm(
     sheet: &[u8],
     m: usize,
@@ -134,19 +137,21 @@ fn put_farm(
     farm: usize,
     area: &mut [u8],
     at: usize,
-) -> u32
+) -> u64
     requires { ⌜ Shape (now sheet) m n × (now yards ≡ risingBelow m set) × (farm < n) × (at + 8 ≤ length (now area)) ⌝ }
-    ensures haul { λ r. ⌜ r ≡ nearest (instanceBy (now (sheet .entry)) m n) (member set) farm ⌝ }
-    ensures area { λ r. ⌜ now (area .exit) ≡ splice (now (area .entry)) at (farmRecord (instanceBy (now (sheet .entry)) m n) set farm) ⌝ }
+    ensures exact { λ r. ⌜ r ≡ loadsOf (farmByte (now (sheet .entry)) m farm) * nearest (instanceBy (now (sheet .entry)) m n) (member set) farm ⌝ }
+    ensures small { λ r. ⌜ r ≤ mostTerm ⌝ }
+    ensures area { λ r. ⌜ now (area .exit) ≡ splice (now (area .entry)) at (farmRecord (instanceBy (now (sheet .entry)) m n) (farmByte (now (sheet .entry)) m) set farm) ⌝ }
 {
     let hauls = sheet::farm_stretch(sheet, m, farm);
     let near = nearest_of(sheet, hauls, set, yards);
-    let record = Record::new(KIND_FARM, near.yard as u8, farm as u8, 0, near.haul);
+    let byte3 = Record::at(hauls, 0).byte3;
+    let record = Record::new(KIND_FARM, near.yard as u8, farm as u8, byte3, near.haul);
     record.put(area, at);
-    near.haul
+    questions::loads_of(byte3) * (near.haul as u64)
 }
 
-// Writes the records of the farms from an offset on, and gives the sum of their hauls.
+// Writes the records of the farms from an offset on, and gives the sum of their hauls, times loads.
 fn put_farms(
     sheet: &[u8],
     m: usize,
@@ -159,12 +164,12 @@ fn put_farms(
     requires { ⌜ Shape (now sheet) m n × (now yards ≡ risingBelow m set) × (from + 8 * n ≤ length (now area)) ⌝ }
     ensures exact { λ r. ⌜ r ≡ serviceCost (instanceBy (now (sheet .entry)) m n) (member set) ⌝ }
     ensures small { λ r. ⌜ r ≤ n * mostTerm ⌝ }
-    ensures area { λ r. ⌜ now (area .exit) ≡ splice (now (area .entry)) from (join n (farmRecord (instanceBy (now (sheet .entry)) m n) set)) ⌝ }
+    ensures area { λ r. ⌜ now (area .exit) ≡ splice (now (area .entry)) from (join n (farmRecord (instanceBy (now (sheet .entry)) m n) (farmByte (now (sheet .entry)) m) set)) ⌝ }
 {
     let mut total: u64 = 0;
     let mut farm = 0;
     while farm < n {
-        let haul = put_farm(
+        let cost = put_farm(
             sheet,
             m,
             n,
@@ -174,7 +179,7 @@ fn put_farms(
             area,
             from + Record::LEN * farm,
         );
-        total += haul as u64;
+        total += cost;
         farm += 1;
     }
     total

@@ -1,6 +1,6 @@
 -- On an accepted sheet every set's costs fit the four bytes of an amount.
 use Prim.Native.Nat.{ℕ, _*_, _≤_, _<_}
-use native.Mathlib.Nat.{le-trans, mul-le-mul-right}
+use native.Mathlib.Nat.{le-trans, mul-le-mul, mul-le-mul-right}
 use native.Mathlib.Omega.{arith}
 use mathlib.Core.Bool.{Bool}
 use Rattle.model.specs.Loops.{on}
@@ -8,7 +8,7 @@ use Rattle.model.specs.Instance.{Instance, nearest, openingCost, serviceCost, t
 use Rattle.model.proofs.SumLaws.{sum-bound, on-le}
 use Rattle.model.proofs.LeastLaws.{least-bound}
 use Rattle.record.specs.Records.{amountEnd}
-use Rattle.questions.specs.Bounds.{mostYards, mostFarms, mostFee, mostHaul}
+use Rattle.questions.specs.Bounds.{mostYards, mostFarms, mostLoads, mostFee, mostHaul}
 use Rattle.questions.proofs.AcceptedLaws.{WithinBounds}
 
 module _ (I : Instance) (w : WithinBounds I) (S : ℕ → Bool) where
@@ -23,13 +23,14 @@ module _ (I : Instance) (w : WithinBounds I) (S : ℕ → Bool) where
       (sum-bound (I .facilities) mostFee (λ i. on (S i) (I .opening i)) (λ i l. le-trans (on-le (S i) (I .opening i)) (w .opening-within i l)))
       (mul-le-mul-right mostFee (w .few-facilities))
 
-  service-small : serviceCost I S ≤ mostFarms * mostHaul
+  service-small : serviceCost I S ≤ mostFarms * (mostLoads * mostHaul)
   unfolding serviceCost
   service-small =
       le-trans
-      (sum-bound (I .clients) mostHaul (λ j. I .weight j * nearest I S j) (λ j l. rw (w .weight-one j) (omega (arith, nearest-within j l))))
-      (mul-le-mul-right mostHaul (w .few-clients))
+      (sum-bound (I .clients) (mostLoads * mostHaul) (λ j. I .weight j * nearest I S j) (λ j l. mul-le-mul (w .weight-within j l) (nearest-within j l)))
+      (mul-le-mul-right (mostLoads * mostHaul) (w .few-clients))
 
+  -- 32 fees of 50,000,000 and 128 farms' 20 loads at 1,000,000: 4,160,000,000 at most
   pub total-fits : totalCost I S < amountEnd
   unfolding totalCost
   total-fits = omega (arith, opening-small, service-small)

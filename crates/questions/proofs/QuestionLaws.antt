@@ -1,6 +1,7 @@
--- Laws of questions 1 to 5: what a record that was read answers, and which part of a question decides it.
-use Prim.Native.Nat.{ℕ, _*_, _%_, _≤_, _<_}
-use mathlib.Core.Path.{_≡_, ap}
+-- Laws of questions 1 to 5 and 10: what a record that was read answers, and which part of a question decides it.
+use Prim.Native.Nat.{ℕ, _+_, _*_, _%_, _≤_, _<_}
+use native.Mathlib.Nat.{add-zero}
+use mathlib.Core.Path.{_≡_, sym, ap, ap₂, _∙_}
 use mathlib.Core.Bool.{true, false, _&&_, and-false}
 use mathlib.Core.List.{List}
 use borrow.Author.Tests.{eq-eqb, ne-eqb, le-leb, lt-leb, eqb-true, leb-true}
@@ -10,11 +11,16 @@ use Rattle.model.specs.Loops.{allBelow}
 use Rattle.model.proofs.Bools.{and-left, and-right}
 use Rattle.record.specs.declared.Record.{Record}
 use Rattle.record.specs.Records.{recordAt}
-use Rattle.questions.specs.Bounds.{yardKind, leastBytes, mostBytes, mostYards, mostFarms, mostFee, mostHaul}
-use Rattle.questions.specs.Sheet.{isYard, yards, hauls, farms, place}
-use Rattle.questions.specs.Questions.{question1, wellFormed, wellFormedAt, question3, numbered, noYardAfter, question4, haulInPlace, farmInPlace, question5, amountWithin}
+use Rattle.questions.specs.Bounds.{yardKind, leastBytes, mostBytes, mostYards, mostFarms, mostLoads, mostFee, mostHaul}
+use Rattle.questions.specs.Sheet.{isYard, yards, hauls, farms, place, loadsByte, farmByte}
+use Rattle.questions.specs.Questions.{question1, wellFormed, wellFormedAt, question3, numbered, noYardAfter, question4, haulInPlace, farmInPlace, haulLoaded, question5, amountWithin}
 
 -- ---- one record
+
+-- the byte of a farm's loads, off its first haul record
+pub byte-read : (s : List ℕ) (m p : ℕ) (r : Record) → r ≡ recordAt s (m + p * m) → r .byte3 ≡ farmByte s m p
+unfolding loadsByte
+byte-read s m p r is = ap (λ (x : Record). x .byte3) (is ∙ ap (recordAt s) (sym (add-zero (m + p * m))))
 
 module _ (s : List ℕ) (i : ℕ) (r : Record) (is : r ≡ recordAt s i) where
   pub well-formed-read : wellFormed r ≡ wellFormedAt s i
@@ -32,6 +38,13 @@ module _ (s : List ℕ) (i : ℕ) (r : Record) (is : r ≡ recordAt s i) where
   pub in-place-read : (m p a : ℕ) → i ≡ place m p a → (eqb (r .yard) a && eqb (r .farm) p) ≡ haulInPlace s m p a
   unfolding haulInPlace
   in-place-read m p a e = rw (← e) (ap (λ (x : Record). eqb (x .yard) a && eqb (x .farm) p) is)
+
+  -- beside the first record of the farm
+  pub loaded-read : (m p a : ℕ) (first : Record) → first ≡ recordAt s (m + p * m) → i ≡ place m p a
+      → (eqb (r .byte3) (first .byte3) && leb (r .byte3) mostLoads) ≡ haulLoaded s m p a
+  unfolding haulLoaded loadsByte
+  loaded-read m p a first leads e =
+      ap₂ (λ (x y : ℕ). eqb x y && leb x mostLoads) (ap (λ (x : Record). x .byte3) (is ∙ ap (recordAt s) e)) (byte-read s m p first leads)
 
 module _ (s : List ℕ) where
   -- ---- question 1

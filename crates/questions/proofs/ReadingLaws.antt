@@ -9,8 +9,8 @@ use Rattle.model.specs.Instance.{Breaks}
 use Rattle.model.proofs.CostLaws.{not-metric, broken}
 use Rattle.questions.specs.Answers.{Answer, accepted, refused, ask, after}
 use Rattle.questions.specs.Sheet.{yards, farms, instanceOf}
-use Rattle.questions.specs.Questions.{question1, question2, question3, question4, question5, question6}
-use Rattle.questions.specs.Reading.{Counts, counts, form, reading}
+use Rattle.questions.specs.Questions.{question1, question2, question3, question4, question10, question5, question6}
+use Rattle.questions.specs.Reading.{Counts, counts, form, formAndLoads, reading}
 
 -- questions 1 to 4 are answered yes
 pub record Formed (s : List ℕ) : Type 0 where
@@ -25,12 +25,14 @@ pub data FirstNo (s : List ℕ) : ℕ → Type 0 where
   by-2 : question1 s ≡ true → question2 s ≡ false → FirstNo s 2
   by-3 : question1 s ≡ true → question2 s ≡ true → question3 s ≡ false → FirstNo s 3
   by-4 : question1 s ≡ true → question2 s ≡ true → question3 s ≡ true → question4 s ≡ false → FirstNo s 4
-  by-5 : Formed s → question5 s ≡ false → FirstNo s 5
-  by-6 : Formed s → question5 s ≡ true → question6 s ≡ false → FirstNo s 6
+  by-10 : Formed s → question10 s ≡ false → FirstNo s 10
+  by-5 : Formed s → question10 s ≡ true → question5 s ≡ false → FirstNo s 5
+  by-6 : Formed s → question10 s ≡ true → question5 s ≡ true → question6 s ≡ false → FirstNo s 6
 
--- all six are answered yes
+-- all are answered yes
 pub record AllYes (s : List ℕ) : Type 0 where
   pub well-formed : Formed s
+  pub tenth : question10 s ≡ true
   pub fifth : question5 s ≡ true
   pub sixth : question6 s ≡ true
 
@@ -77,48 +79,69 @@ module _ (s : List ℕ) where
   unfolding form
   form-yes y = rw (y .first, y .second, y .third, y .fourth)
 
-  pub reading-form : (k : ℕ) → form s ≡ refused k → reading s ≡ refused k
-  unfolding reading
-  reading-form k f = rw f
+  pub loads-form : (k : ℕ) → form s ≡ refused k → formAndLoads s ≡ refused k
+  unfolding formAndLoads
+  loads-form k f = rw f
 
-  pub reading-5 : {c : Counts} → form s ≡ accepted c → question5 s ≡ false → reading s ≡ refused 5
+  pub loads-10 : {c : Counts} → form s ≡ accepted c → question10 s ≡ false → formAndLoads s ≡ refused 10
+  unfolding formAndLoads
+  loads-10 f a = rw (f, a)
+
+  pub loads-yes : {c : Counts} → form s ≡ accepted c → question10 s ≡ true → formAndLoads s ≡ accepted c
+  unfolding formAndLoads
+  loads-yes f a = rw (f, a)
+
+  pub reading-loads : (k : ℕ) → formAndLoads s ≡ refused k → reading s ≡ refused k
+  unfolding reading
+  reading-loads k f = rw f
+
+  pub reading-5 : {c : Counts} → formAndLoads s ≡ accepted c → question5 s ≡ false → reading s ≡ refused 5
   unfolding reading
   reading-5 f a = rw (f, a)
 
-  pub reading-6 : {c : Counts} → form s ≡ accepted c → question5 s ≡ true → question6 s ≡ false → reading s ≡ refused 6
+  pub reading-6 : {c : Counts} → formAndLoads s ≡ accepted c → question5 s ≡ true → question6 s ≡ false → reading s ≡ refused 6
   unfolding reading
   reading-6 f a b = rw (f, a, b)
 
-  pub reading-yes : {c : Counts} → form s ≡ accepted c → question5 s ≡ true → question6 s ≡ true → reading s ≡ accepted c
+  pub reading-yes : {c : Counts} → formAndLoads s ≡ accepted c → question5 s ≡ true → question6 s ≡ true → reading s ≡ accepted c
   unfolding reading
   reading-yes f a b = rw (f, a, b)
+
+  reading-form : (k : ℕ) → form s ≡ refused k → reading s ≡ refused k
+  reading-form k f = reading-loads k (loads-form k f)
+
+  loaded-yes : Formed s → question10 s ≡ true → formAndLoads s ≡ accepted (counts (yards s) (farms s))
+  loaded-yes y t = loads-yes (form-yes y) t
 
   pub when-refused : (k : ℕ) → FirstNo s k → reading s ≡ refused k
   when-refused k (by-1 a) = reading-form 1 (form-1 a)
   when-refused k (by-2 a b) = reading-form 2 (form-2 a b)
   when-refused k (by-3 a b c) = reading-form 3 (form-3 a b c)
   when-refused k (by-4 a b c d) = reading-form 4 (form-4 a b c d)
-  when-refused k (by-5 y a) = reading-5 (form-yes y) a
-  when-refused k (by-6 y a b) = reading-6 (form-yes y) a b
+  when-refused k (by-10 y t) = reading-loads 10 (loads-10 (form-yes y) t)
+  when-refused k (by-5 y t a) = reading-5 (loaded-yes y t) a
+  when-refused k (by-6 y t a b) = reading-6 (loaded-yes y t) a b
 
   pub when-accepted : AllYes s → reading s ≡ accepted (counts (yards s) (farms s))
-  when-accepted y = reading-yes (form-yes (y .well-formed)) (y .fifth) (y .sixth)
+  when-accepted y = reading-yes (loaded-yes (y .well-formed) (y .tenth)) (y .fifth) (y .sixth)
 
   -- ---- and back: some question is the first that is answered no, or all are answered yes
 
   answered : AllYes s ⊎ ((k : ℕ) × FirstNo s k)
-  answered = go _ _ _ _ _ _ refl refl refl refl refl refl
+  answered = go _ _ _ _ refl refl refl refl
     where
-      go : (a b c d e f : Bool) → question1 s ≡ a → question2 s ≡ b → question3 s ≡ c → question4 s ≡ d → question5 s ≡ e → question6 s ≡ f
-          → AllYes s ⊎ ((k : ℕ) × FirstNo s k)
-      go true true true true true true p q r t u v =
-          inl record { well-formed = record { first = p; second = q; third = r; fourth = t }; fifth = u; sixth = v }
-      go true true true true true false p q r t u v = inr (6, by-6 record { first = p; second = q; third = r; fourth = t } u v)
-      go true true true true false f p q r t u v = inr (5, by-5 record { first = p; second = q; third = r; fourth = t } u)
-      go true true true false e f p q r t u v = inr (4, by-4 p q r t)
-      go true true false d e f p q r t u v = inr (3, by-3 p q r)
-      go true false c d e f p q r t u v = inr (2, by-2 p q)
-      go false b c d e f p q r t u v = inr (1, by-1 p)
+      rest : Formed s → (a b c : Bool) → question10 s ≡ a → question5 s ≡ b → question6 s ≡ c → AllYes s ⊎ ((k : ℕ) × FirstNo s k)
+      rest y true true true t u v = inl record { well-formed = y; tenth = t; fifth = u; sixth = v }
+      rest y true true false t u v = inr (6, by-6 y t u v)
+      rest y true false c t u v = inr (5, by-5 y t u)
+      rest y false b c t u v = inr (10, by-10 y t)
+
+      go : (a b c d : Bool) → question1 s ≡ a → question2 s ≡ b → question3 s ≡ c → question4 s ≡ d → AllYes s ⊎ ((k : ℕ) × FirstNo s k)
+      go true true true true p q r t = rest record { first = p; second = q; third = r; fourth = t } _ _ _ refl refl refl
+      go true true true false p q r t = inr (4, by-4 p q r t)
+      go true true false d p q r t = inr (3, by-3 p q r)
+      go true false c d p q r t = inr (2, by-2 p q)
+      go false b c d p q r t = inr (1, by-1 p)
 
   pub refused-when : (k : ℕ) → reading s ≡ refused k → FirstNo s k
   refused-when k h =
@@ -127,17 +150,18 @@ module _ (s : List ℕ) where
         | inr f ↦ subst (FirstNo s) (same-number (sym (when-refused (f .0) (f .1)) ∙ h)) (f .1)
       ]
 
-  -- reading refuses by a number from 1 to 6
-  pub refused-by : (k : ℕ) → reading s ≡ refused k → (1 ≤ k) × (k ≤ 6)
+  -- reading refuses by a number from 1 to 10
+  pub refused-by : (k : ℕ) → reading s ≡ refused k → (1 ≤ k) × (k ≤ 10)
   refused-by k h = go k (refused-when k h)
     where
-      go : (j : ℕ) → FirstNo s j → (1 ≤ j) × (j ≤ 6)
+      go : (j : ℕ) → FirstNo s j → (1 ≤ j) × (j ≤ 10)
       go j (by-1 a) = (omega arith, omega arith)
       go j (by-2 a b) = (omega arith, omega arith)
       go j (by-3 a b c) = (omega arith, omega arith)
       go j (by-4 a b c d) = (omega arith, omega arith)
-      go j (by-5 y a) = (omega arith, omega arith)
-      go j (by-6 y a b) = (omega arith, omega arith)
+      go j (by-10 y t) = (omega arith, omega arith)
+      go j (by-5 y t a) = (omega arith, omega arith)
+      go j (by-6 y t a b) = (omega arith, omega arith)
 
   pub accepted-when : (m n : ℕ) → reading s ≡ accepted (counts m n) → AllYes s × (yards s ≡ m) × (farms s ≡ n)
   accepted-when m n h =
@@ -159,21 +183,30 @@ module _ (s : List ℕ) where
       no-form k (by-2 a b) = absurd (not-both (sym h ∙ form-2 a b))
       no-form k (by-3 a b c) = absurd (not-both (sym h ∙ form-3 a b c))
       no-form k (by-4 a b c d) = absurd (not-both (sym h ∙ form-4 a b c d))
-      no-form k (by-5 y a) = y
-      no-form k (by-6 y a b) = y
+      no-form k (by-10 y t) = y
+      no-form k (by-5 y t a) = y
+      no-form k (by-6 y t a b) = y
 
       passed : AllYes s ⊎ ((k : ℕ) × FirstNo s k) → Formed s
       passed (inl y) = y .well-formed
       passed (inr f) = no-form (f .0) (f .1)
 
-  -- ---- demand 2 of the letter: refused for its hauls exactly when form and amounts pass and some two yards and two farms
+  -- and with good loads one that 10 passes too
+  pub loaded : (m n : ℕ) → formAndLoads s ≡ accepted (counts m n) → (form s ≡ accepted (counts m n)) × (question10 s ≡ true)
+  unfolding formAndLoads
+  loaded m n h =
+      let f = read-first (form s) _ _ h in
+      let t = asked (question10 s) 10 _ _ (f .2) in
+      (f .1 ∙ t .1, t .0)
+
+  -- ---- demand 2 of the letter: refused for its hauls exactly when form, loads and amounts pass and some two yards and two farms
   -- break the rule
 
-  broken-rule : FirstNo s 6 → Formed s × (question5 s ≡ true) × Breaks (instanceOf s)
+  broken-rule : FirstNo s 6 → Formed s × (question10 s ≡ true) × (question5 s ≡ true) × Breaks (instanceOf s)
   unfolding question6
-  broken-rule (by-6 y a b) = (y, a, not-metric (instanceOf s) b)
+  broken-rule (by-6 y t a b) = (y, t, a, not-metric (instanceOf s) b)
 
-  pub refused-by-6 : (reading s ≡ refused 6 → Formed s × (question5 s ≡ true) × Breaks (instanceOf s))
-      × (Formed s → question5 s ≡ true → Breaks (instanceOf s) → reading s ≡ refused 6)
+  pub refused-by-6 : (reading s ≡ refused 6 → Formed s × (question10 s ≡ true) × (question5 s ≡ true) × Breaks (instanceOf s))
+      × (Formed s → question10 s ≡ true → question5 s ≡ true → Breaks (instanceOf s) → reading s ≡ refused 6)
   unfolding question6
-  refused-by-6 = (λ h. broken-rule (refused-when 6 h), λ y a w. reading-6 (form-yes y) a (broken (instanceOf s) w))
+  refused-by-6 = (λ h. broken-rule (refused-when 6 h), λ y t a w. reading-6 (loaded-yes y t) a (broken (instanceOf s) w))

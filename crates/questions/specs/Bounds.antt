@@ -1,4 +1,4 @@
--- The numbers of document 01 ("The haul sheet"), each named here; proofs/Limits.antt computes the questions at them.
+-- The numbers of document 01 ("The haul sheet") and of document 02's paper 2, each named here; proofs/Limits.antt computes the questions at them.
 use Prim.Native.Nat.{ℕ}
 
 -- the kinds of a sheet's records
@@ -21,6 +21,10 @@ mostYards = 32
 
 abbrev pub mostFarms : ℕ
 mostFarms = 128
+
+-- a farm's loads
+abbrev pub mostLoads : ℕ
+mostLoads = 20
 
 -- a fee, a haul, in cents
 abbrev pub mostFee : ℕ

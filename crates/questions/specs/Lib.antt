@@ -1,5 +1,5 @@
--- Bounds: the numbers of document 01. Answers: a refusal number or a result. Sheet: what stands where, and the door to the model.
--- Questions: 1 to 6. Reading: what they answer together. Shape: what private functions require.
+-- Bounds: the numbers of documents 01 and 02. Answers: a refusal number or a result. Sheet: what stands where, and the door to the model.
+-- Questions: 1 to 6, and 10. Reading: what they answer together. Shape: what private functions require.
 pub mod Bounds
 pub mod Answers
 pub mod Sheet

@@ -7,5 +7,6 @@ use Rattle.questions.specs.Bounds.{mostYards, mostFarms}
 
 pub record Shape (s : List ℕ) (m n : ℕ) : Type 0 where
   pub room : 8 * (m + n * m) ≤ length s
+  pub some-yards : 1 ≤ m
   pub few-yards : m ≤ mostYards
   pub few-farms : n ≤ mostFarms

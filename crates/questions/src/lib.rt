@@ -1,12 +1,15 @@
-// The questions put to a sheet: what 1 to 6 ask (specs/), and the code that asks 1 to 4 one by one, the form of a sheet.
+// The questions put to a sheet: what 1 to 6 and 10 ask (specs/), and the code that asks 1 to 4, the form of a sheet, and 10 one by one.
 //
-// `form_of` gives the counts of yards and farms or the number of the first "no"; `well_formed` is question 2 of one record. Both take anything.
+// `form_of` and `form_and_loads_of` give the counts of yards and farms or the number of the first "no"; `well_formed` is question 2 of one
+// record, and `loads_of` reads the byte of a farm's loads. All take anything.
 mod hauls;
+mod loads;
 mod yards;
 
 ghost use mathlib.Core.Path.{_≡_};
+ghost use Rattle.questions.specs.Sheet.{loadsOf};
 ghost use Rattle.questions.specs.Questions.{question1, wellFormed, question2};
-ghost use Rattle.questions.specs.Reading.{readingAnswer, form};
+ghost use Rattle.questions.specs.Reading.{readingAnswer, form, formAndLoads};
 use record::Record;
 
 pub const KIND_YARD: u8 = 0x59;
@@ -20,6 +23,8 @@ pub const MOST_BYTES: usize = 33024;
 pub const MOST_YARDS: usize = 32;
 
 pub const MOST_FARMS: usize = 128;
+
+pub const MOST_LOADS: u8 = 20;
 
 // The counts of a sheet that passes the questions asked, or the number of the first that it fails.
 pub enum Reading {
@@ -48,6 +53,28 @@ pub fn form_of(sheet: &[u8]) -> Reading
     Reading::Accepted { yards, farms }
 }
 
+// Questions 1 to 4, and 10 after them.
+pub fn form_and_loads_of(sheet: &[u8]) -> Reading
+    ensures { λ r. ⌜ readingAnswer r ≡ formAndLoads (now (sheet .entry)) ⌝ }
+{
+    match form_of(sheet) {
+        Reading::Accepted { yards, farms } => {
+            if !loads::loads_good(sheet, yards, farms) {
+                return Reading::Refused(10);
+            }
+            Reading::Accepted { yards, farms }
+        }
+        Reading::Refused(number) => Reading::Refused(number),
+    }
+}
+
+// The loads that a byte tells: 0 is read as 1.
+pub fn loads_of(byte3: u8) -> u64
+    ensures { λ r. ⌜ r ≡ loadsOf byte3 ⌝ }
+{
+    if byte3 == 0 { 1 } else { byte3 as u64 }
+}
+
 // Question 2 of one record.
 pub fn well_formed(record: Record) -> bool
     ensures { λ r. ⌜ r ≡ wellFormed «record» ⌝ }
@@ -55,7 +82,7 @@ pub fn well_formed(record: Record) -> bool
     let kind = record.kind;
     match kind {
         KIND_YARD => record.farm == 0 && record.byte3 == 0,
-        KIND_HAUL => record.byte3 == 0,
+        KIND_HAUL => true,
         _ => false,
     }
 }

@@ -1,4 +1,4 @@
--- The record (document 01, "The haul sheet"): byte 0 the kind, byte 1 a yard number, byte 2 a farm number, byte 3 zero,
+-- The record (document 01, "The haul sheet"): byte 0 the kind, byte 1 a yard number, byte 2 a farm number, byte 3 zero or a farm's loads,
 -- bytes 4 to 7 an amount, lowest byte first.
 use Prim.Native.Nat.{ℕ, _+_, _*_, _/_, _%_, _^_}
 use mathlib.Core.Bool.{cond}

@@ -11,9 +11,9 @@ use Rattle.model.specs.Search.{better, best, next, descend, search}
 use Rattle.model.specs.Plans.{openCost, openStart, openSearch, limitedCost, limitedStart, limitedSearch}
 use Rattle.record.specs.Records.{recordOf, recordAt, bytesOf}
 use Rattle.questions.specs.Answers.{Answer, accepted, refused}
-use Rattle.questions.specs.Sheet.{isYard, yards, hauls, farms, fee, haul, instanceOf, instanceBy}
-use Rattle.questions.specs.Questions.{question1, question2, wellFormed, wellFormedAt, question3, numbered, noYardAfter, question4, haulInPlace, farmInPlace, question5, amountWithin, question6}
-use Rattle.questions.specs.Reading.{Counts, counts, form, reading}
+use Rattle.questions.specs.Sheet.{isYard, yards, hauls, farms, fee, haul, loadsByte, instanceOf, instanceBy}
+use Rattle.questions.specs.Questions.{question1, question2, wellFormed, wellFormedAt, question3, numbered, noYardAfter, question4, haulInPlace, farmInPlace, question10, haulLoaded, farmLoaded, question5, amountWithin, question6}
+use Rattle.questions.specs.Reading.{Counts, counts, form, formAndLoads, reading}
 use Rattle.price.specs.Plan.{openRecord, farmRecord, totalRecord, movesRecord, planBytes, question9}
 use Rattle.price.specs.Pricing.{Plan, question8, pricing}
 use Rattle.search.specs.SearchEnds.{settledAt, openEnd, limitedEnd, planOf}
@@ -24,25 +24,28 @@ use Rattle.search.specs.Planning.{openPlan, limitedPlan, question7, open
 yard : ℕ → ℕ → List ℕ
 yard i fee = bytesOf (recordOf 0x59 i 0 0 fee)
 
--- farm p's haul to yard a
-haulTo : ℕ → ℕ → ℕ → List ℕ
-haulTo p a amount = bytesOf (recordOf 0x48 a p 0 amount)
+-- farm p's haul to yard a, with the byte of its loads
+haulTo : ℕ → ℕ → ℕ → ℕ → List ℕ
+haulTo p a byte3 amount = bytesOf (recordOf 0x48 a p byte3 amount)
 
--- two yards with fees 0, and two farms: hauls 1, 1 and 1, x
-twoYards : ℕ → List ℕ
-twoYards x = yard 0 0 ++ yard 1 0 ++ haulTo 0 0 1 ++ haulTo 0 1 1 ++ haulTo 1 0 1 ++ haulTo 1 1 x
+-- two yards with fees 0, and two farms of these loads: hauls 1, 1 and 1, x
+twoYards : ℕ → ℕ → ℕ → List ℕ
+twoYards b c x = yard 0 0 ++ yard 1 0 ++ haulTo 0 0 b 1 ++ haulTo 0 1 b 1 ++ haulTo 1 0 c 1 ++ haulTo 1 1 c x
 
--- document 02, paper 1: two yards with these fees and one farm at 3 and 3
-equalHauls : ℕ → ℕ → List ℕ
-equalHauls a b = yard 0 a ++ yard 1 b ++ haulTo 0 0 3 ++ haulTo 0 1 3
+-- document 02, paper 1: two yards with these fees and one farm at 3 and 3; its two records have these bytes
+equalHauls : ℕ → ℕ → ℕ → ℕ → List ℕ
+equalHauls a b c d = yard 0 a ++ yard 1 b ++ haulTo 0 0 c 3 ++ haulTo 0 1 d 3
 
--- sheet S: fees 1, 4, 2; hauls of farm 0: 1, 3, 9; farm 1: 5, 1, 5; farm 2: 9, 5, 1
-sheetS : List ℕ
-sheetS =
+-- sheet S, fees 1, 4, 2; hauls of farm 0: 1, 3, 9; farm 1: 5, 1, 5; farm 2: 9, 5, 1; with these bytes of loads
+loaded : ℕ → ℕ → ℕ → List ℕ
+loaded b c d =
     yard 0 1 ++ yard 1 4 ++ yard 2 2
-    ++ haulTo 0 0 1 ++ haulTo 0 1 3 ++ haulTo 0 2 9
-    ++ haulTo 1 0 5 ++ haulTo 1 1 1 ++ haulTo 1 2 5
-    ++ haulTo 2 0 9 ++ haulTo 2 1 5 ++ haulTo 2 2 1
+    ++ haulTo 0 0 b 1 ++ haulTo 0 1 b 3 ++ haulTo 0 2 b 9
+    ++ haulTo 1 0 c 5 ++ haulTo 1 1 c 1 ++ haulTo 1 2 c 5
+    ++ haulTo 2 0 d 9 ++ haulTo 2 1 d 5 ++ haulTo 2 2 d 1
+
+sheetS : List ℕ
+sheetS = loaded 0 0 0
 
 -- ---- the calls, and what they give: the counts, or a plan's records and moves, or a number
 
@@ -71,9 +74,12 @@ given (plansLimited s k) = planAnswer (limitedPlanning s k room)
 opened : ℕ → ℕ → List ℕ
 opened i fee = bytesOf (recordOf 0x4F i 0 0 fee)
 
--- farm p is given yard a
+-- farm p is given yard a, and its record has this byte 3
+brings : ℕ → ℕ → ℕ → ℕ → List ℕ
+brings p a byte3 amount = bytesOf (recordOf 0x41 a p byte3 amount)
+
 served : ℕ → ℕ → ℕ → List ℕ
-served p a amount = bytesOf (recordOf 0x41 a p 0 amount)
+served p a amount = brings p a 0 amount
 
 -- the total for so many yards and farms, and the moves
 ends : ℕ → ℕ → ℕ → ℕ → List ℕ
@@ -113,12 +119,25 @@ table =
     ∷ case (plansLimited sheetS 0) (refuses 7)
     ∷ case (plansLimited sheetS 4) (refuses 7)
     -- the rule kept, and broken
-    ∷ case (reads (twoYards 3)) (readAnswer (accepted (counts 2 2)))
-    ∷ case (reads (twoYards 4)) (readAnswer (refused 6))
+    ∷ case (reads (twoYards 0 0 3)) (readAnswer (accepted (counts 2 2)))
+    ∷ case (reads (twoYards 0 0 4)) (readAnswer (refused 6))
     -- equal hauls go to the lower fee, in a limited plan too, and only then to the lower number
-    ∷ case (prices (equalHauls 4 2) 3) (gives (opened 0 4 ++ opened 1 2 ++ served 0 1 3 ++ ends 2 1 9 0) 0)
-    ∷ case (plansLimited (equalHauls 4 2) 2) (gives (opened 0 4 ++ opened 1 2 ++ served 0 1 3 ++ ends 2 1 3 0) 0)
-    ∷ case (prices (equalHauls 2 2) 3) (gives (opened 0 2 ++ opened 1 2 ++ served 0 0 3 ++ ends 2 1 7 0) 0)
+    ∷ case (prices (equalHauls 4 2 0 0) 3) (gives (opened 0 4 ++ opened 1 2 ++ served 0 1 3 ++ ends 2 1 9 0) 0)
+    ∷ case (plansLimited (equalHauls 4 2 0 0) 2) (gives (opened 0 4 ++ opened 1 2 ++ served 0 1 3 ++ ends 2 1 3 0) 0)
+    ∷ case (prices (equalHauls 2 2 0 0) 3) (gives (opened 0 2 ++ opened 1 2 ++ served 0 0 3 ++ ends 2 1 7 0) 0)
+    -- paper 2, S with 1, 1 and 20 loads, the first told as 0: the open plan, pricing {0, 2} and {1}, the limited plan for 1. A haul counts times
+    -- loads; a farm's record repeats the byte and has the haul of one load.
+    ∷ case (plans (loaded 0 1 20)) (gives (opened 0 1 ++ opened 2 2 ++ brings 0 0 0 1 ++ brings 1 0 1 5 ++ brings 2 2 20 1 ++ ends 2 3 29 1) 1)
+    ∷ case (prices (loaded 0 1 20) 5) (gives (opened 0 1 ++ opened 2 2 ++ brings 0 0 0 1 ++ brings 1 0 1 5 ++ brings 2 2 20 1 ++ ends 2 3 29 0) 0)
+    ∷ case (prices (loaded 0 1 20) 2) (gives (opened 1 4 ++ brings 0 1 0 3 ++ brings 1 1 1 1 ++ brings 2 1 20 5 ++ ends 1 3 108 0) 0)
+    ∷ case (plansLimited (loaded 0 1 20) 1) (gives (opened 2 2 ++ brings 0 2 0 9 ++ brings 1 2 1 5 ++ brings 2 2 20 1 ++ ends 1 3 34 1) 1)
+    -- a byte above 20, bytes that differ within a farm, 0 beside 1
+    ∷ case (reads (loaded 0 1 21)) (readAnswer (refused 10))
+    ∷ case (prices (equalHauls 4 2 5 6) 3) (refuses 10)
+    ∷ case (plans (equalHauls 4 2 0 1)) (refuses 10)
+    -- the rule is about one load
+    ∷ case (reads (twoYards 1 20 3)) (readAnswer (accepted (counts 2 2)))
+    ∷ case (reads (twoYards 20 1 4)) (readAnswer (refused 6))
     ∷ []
 
 pub expected : List Case → List Given
@@ -130,5 +149,5 @@ computed [] = []
 computed (c ∷ cs) = given (c .call) ∷ computed cs
 
 pub marked-cases : computed table ≡ expected table
-unfolding table case gives refuses ends served opened given room sheetS twoYards equalHauls haulTo yard expected computed bytesOf recordAt wellFormed reading form question1 question2 wellFormedAt question3 numbered noYardAfter question4 haulInPlace farmInPlace question5 amountWithin question6 isYard yards hauls farms fee haul instanceOf instanceBy allBelow leading sum join any least arg member with without metric fourPointBPQ fourPointPQ fourPointQ fourPoint nearest atNearest assigned openingCost serviceCost totalCost addAt adds dropAt drops swapAt swapsOut swaps addDropSwap better best next descend search openCost openStart openSearch limitedCost limitedStart limitedSearch openRecord farmRecord totalRecord movesRecord planBytes question9 question8 pricing openEnd limitedEnd settledAt planOf openPlan limitedPlan question7 openPlanning limitedPlanning
+unfolding table case gives refuses ends served brings opened given room sheetS loaded twoYards equalHauls haulTo yard expected computed bytesOf recordAt wellFormed reading formAndLoads form question1 question2 wellFormedAt question3 numbered noYardAfter question4 haulInPlace farmInPlace question10 haulLoaded farmLoaded question5 amountWithin question6 isYard yards hauls farms fee haul loadsByte instanceOf instanceBy allBelow leading sum join any least arg member with without metric fourPointBPQ fourPointPQ fourPointQ fourPoint nearest atNearest assigned openingCost serviceCost totalCost addAt adds dropAt drops swapAt swapsOut swaps addDropSwap better best next descend search openCost openStart openSearch limitedCost limitedStart limitedSearch openRecord farmRecord totalRecord movesRecord planBytes question9 question8 pricing openEnd limitedEnd settledAt planOf openPlan limitedPlan question7 openPlanning limitedPlanning
 marked-cases = refl

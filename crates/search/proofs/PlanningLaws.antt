@@ -1,7 +1,7 @@
 -- The cases of the two plans: each refusal, and the plan that the search reaches.
 use Prim.Native.Nat.{ℕ, _^_, _≤_, _<_}
 use native.Mathlib.Omega.{arith}
-use mathlib.Core.Path.{_≡_, refl, sym, ap, _∙_}
+use mathlib.Core.Path.{_≡_, refl, sym, ap, ap₂, _∙_}
 use mathlib.Core.Bool.{true, false, and-false}
 use mathlib.Core.List.{List}
 use borrow.Author.Tests.{le-leb, lt-leb, leb-true}
@@ -14,7 +14,7 @@ use Rattle.model.proofs.Bools.{and-left, and-right}
 use Rattle.model.proofs.SearchLaws.{search-ends}
 use Rattle.record.specs.Records.{splice}
 use Rattle.questions.specs.Answers.{Answer, accepted, refused, after}
-use Rattle.questions.specs.Sheet.{instanceBy, instanceOf}
+use Rattle.questions.specs.Sheet.{yards, farmByte, instanceBy, instanceOf}
 use Rattle.questions.specs.Shape.{Shape}
 use Rattle.questions.specs.Reading.{counts, reading}
 use Rattle.questions.proofs.ReadingLaws.{same-result, asked, read-first}
@@ -35,12 +35,12 @@ pub writes-settled : (s : List ℕ) (m n : ℕ) (r : Settled) (area next : List 
     → question9 m n (length area) ≡ true
     → bytes ≡ length (writing s m n (r .set) (r .cost) (r .moves) (length area))
     → next ≡ splice area 0 (writing s m n (r .set) (r .cost) (r .moves) (length area))
-    → (accepted (result bytes (r .moves)) ≡ answer (accepted (planOf (instanceBy s m n) r)))
-    × (next ≡ areaAfter (accepted (planOf (instanceBy s m n) r)) area)
+    → (accepted (result bytes (r .moves)) ≡ answer (accepted (planOf (instanceBy s m n) (farmByte s m) r)))
+    × (next ≡ areaAfter (accepted (planOf (instanceBy s m n) (farmByte s m) r)) area)
 unfolding planOf
 writes-settled s m n r area next bytes shape q long put =
     let is = writes-of s m n (r .set) (r .cost) (r .moves) (length area) shape q in
-    makes (accepted (planOf (instanceBy s m n) r)) area _ next bytes (r .moves) refl (long ∙ ap length is) refl (put ∙ ap (splice area 0) is)
+    makes (accepted (planOf (instanceBy s m n) (farmByte s m) r)) area _ next bytes (r .moves) refl (long ∙ ap length is) refl (put ∙ ap (splice area 0) is)
 
 -- ---- how large they are
 
@@ -111,9 +111,10 @@ module _ (moves : Neighbourhood) (s : List ℕ) (k room : ℕ) where
     no-room q h = rw (e, q, h)
 
     pub planned : question7 m k ≡ true → question9 m n room ≡ true
-        → planningBy moves s k room ≡ accepted (planOf (instanceBy s m n) (endBy moves (instanceBy s m n) k))
+        → planningBy moves s k room ≡ accepted (planOf (instanceBy s m n) (farmByte s m) (endBy moves (instanceBy s m n) k))
     unfolding planningBy
-    planned q h = rw (e, q, h) (ap (λ I. accepted (planOf I (endBy moves I k))) (sym (instance-is (accepts s m n e .has))))
+    planned q h = let form = accepts s m n e .has in
+        rw (e, q, h) (ap₂ (λ I b. accepted (planOf I b (endBy moves I k))) (sym (instance-is form)) (ap (farmByte s) (form .yards-are)))
 
 -- ---- which are the cases of the calls
 
@@ -134,7 +135,7 @@ limited-planning s k room = refl
 -- ---- and back: where a plan is made, the sheet was accepted and the questions were answered yes
 
 pub open-when : (s : List ℕ) (room : ℕ) (p : Plan) → openPlanning s room ≡ accepted p
-    → (m : ℕ) × (n : ℕ) × (reading s ≡ accepted (counts m n)) × (p ≡ openPlan (instanceOf s))
+    → (m : ℕ) × (n : ℕ) × (reading s ≡ accepted (counts m n)) × (p ≡ openPlan (instanceOf s) (farmByte s (yards s)))
 unfolding openPlanning
 open-when s room p h =
     let r = read-first (reading s) _ p h in
@@ -143,7 +144,7 @@ open-when s room p h =
     (c .yards, c .farms, r .1, sym (same-result (q .1)))
 
 pub limited-when : (s : List ℕ) (k room : ℕ) (p : Plan) → limitedPlanning s k room ≡ accepted p
-    → (m : ℕ) × (n : ℕ) × (reading s ≡ accepted (counts m n)) × ((1 ≤ k) × (k ≤ m)) × (p ≡ limitedPlan (instanceOf s) k)
+    → (m : ℕ) × (n : ℕ) × (reading s ≡ accepted (counts m n)) × ((1 ≤ k) × (k ≤ m)) × (p ≡ limitedPlan (instanceOf s) (farmByte s (yards s)) k)
 unfolding limitedPlanning
 limited-when s k room p h =
     let r = read-first (reading s) _ p h in

@@ -16,7 +16,7 @@ use Rattle.model.proofs.SearchLaws.{search-ends}
 use Rattle.model.proofs.PlanLaws.{open-plan-keeps, limited-plan-keeps}
 use Rattle.bounds.proofs.Searches.{open-plan-bound, open-plan-thrice, limited-plan-bound}
 use Rattle.questions.specs.Answers.{accepted}
-use Rattle.questions.specs.Sheet.{yards, instanceOf, instanceBy}
+use Rattle.questions.specs.Sheet.{yards, farmByte, instanceOf, instanceBy}
 use Rattle.questions.specs.Reading.{counts, reading}
 use Rattle.questions.proofs.AcceptedLaws.{WithinBounds, door, facilities-are, facilities-read}
 use Rattle.price.specs.Pricing.{Plan, plannedAnswer, answer, areaAfter, OfPlan}
@@ -31,11 +31,12 @@ use Rattle.search.proofs.PlanningLaws.{open-when, limited-when}
 -- ---- the sets that the searches end in
 
 module _ (s : List ℕ) (w : WithinBounds (instanceOf s)) where
-  open-set : PlanOf (openSearch (instanceOf s) (openStart (instanceOf s)) .set) (openPlan (instanceOf s))
+  open-set : PlanOf (openSearch (instanceOf s) (openStart (instanceOf s)) .set) (openPlan (instanceOf s) (farmByte s (yards s)))
   unfolding openPlan planOf openEnd settledAt
   open-set =
       record {
         instance = instanceOf s;
+        byte3 = farmByte s (yards s);
         total = _;
         moves = _;
         is = refl;
@@ -43,11 +44,12 @@ module _ (s : List ℕ) (w : WithinBounds (instanceOf s)) where
         small = open-plan-keeps (instanceOf s) (w .some-facilities) .0;
       }
 
-  limited-set : (k : ℕ) → k ≤ instanceOf s .facilities → PlanOf (limitedSearch (instanceOf s) (limitedStart k) .set) (limitedPlan (instanceOf s) k)
+  limited-set : (k : ℕ) → k ≤ instanceOf s .facilities → PlanOf (limitedSearch (instanceOf s) (limitedStart k) .set) (limitedPlan (instanceOf s) (farmByte s (yards s)) k)
   unfolding limitedPlan planOf limitedEnd settledAt
   limited-set k within =
       record {
         instance = instanceOf s;
+        byte3 = farmByte s (yards s);
         total = _;
         moves = _;
         is = refl;
@@ -104,7 +106,7 @@ module _ (s : List ℕ) (r : Planned) (area next : List ℕ) where
   module _ (says : plannedAnswer r ≡ answer (openPlanning s (length area))) (leaves : next ≡ areaAfter (openPlanning s (length area)) area) where
     -- what holds of the set that the search ends in, and of the area with its plan
     open-of : (P : ℕ → Type 0)
-        → (WithinBounds (instanceOf s) → next ≡ areaAfter (accepted (openPlan (instanceOf s))) area → P (openSearch (instanceOf s) (openStart (instanceOf s)) .set))
+        → (WithinBounds (instanceOf s) → next ≡ areaAfter (accepted (openPlan (instanceOf s) (farmByte s (yards s)))) area → P (openSearch (instanceOf s) (openStart (instanceOf s)) .set))
         → OfPlan r next P
     open-of P holds =
         of-plan (openPlanning s (length area)) r area next says leaves P
@@ -126,7 +128,7 @@ module _ (s : List ℕ) (r : Planned) (area next : List ℕ) where
   module _ (k : ℕ) (says : plannedAnswer r ≡ answer (limitedPlanning s k (length area)))
       (leaves : next ≡ areaAfter (limitedPlanning s k (length area)) area) where
     limited-of : (P : ℕ → Type 0)
-        → (WithinBounds (instanceOf s) → 1 ≤ k → k ≤ instanceOf s .facilities → next ≡ areaAfter (accepted (limitedPlan (instanceOf s) k)) area
+        → (WithinBounds (instanceOf s) → 1 ≤ k → k ≤ instanceOf s .facilities → next ≡ areaAfter (accepted (limitedPlan (instanceOf s) (farmByte s (yards s)) k)) area
         → P (limitedSearch (instanceOf s) (limitedStart k) .set)) → OfPlan r next P
     limited-of P holds =
         of-plan (limitedPlanning s k (length area)) r area next says leaves P

@@ -5,7 +5,7 @@ use mathlib.Core.List.{List}
 use Rattle.model.specs.Instance.{Instance}
 use Rattle.model.specs.Plans.{limitedStart}
 use Rattle.questions.specs.Answers.{Answer, accepted, ask, after}
-use Rattle.questions.specs.Sheet.{instanceOf}
+use Rattle.questions.specs.Sheet.{yards, farmByte, instanceOf}
 use Rattle.questions.specs.Reading.{reading}
 use Rattle.price.specs.Plan.{question9}
 use Rattle.price.specs.Pricing.{Plan}
@@ -26,8 +26,8 @@ unfoldable pub endBy : Neighbourhood → Instance → ℕ → Settled
 endBy AddDropSwap I k = openEnd I
 endBy Swap I k = limitedEnd I k
 
--- questions 1 to 6, 7 and 9, and the plan
+-- what reading asks, questions 7 and 9, and the plan
 unfoldable pub planningBy : Neighbourhood → List ℕ → ℕ → ℕ → Answer Plan
 planningBy moves s k room =
     after (reading s) (λ c. ask (question7 (c .yards) k) 7 (ask (question9 (c .yards) (c .farms) room) 9
-    (accepted (planOf (instanceOf s) (endBy moves (instanceOf s) k)))))
+    (accepted (planOf (instanceOf s) (farmByte s (yards s)) (endBy moves (instanceOf s) k)))))

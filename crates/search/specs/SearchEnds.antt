@@ -17,6 +17,6 @@ openEnd I = settledAt (openCost I) (openSearch I (openStart I))
 unfoldable pub limitedEnd : Instance → ℕ → Settled
 limitedEnd I k = settledAt (limitedCost I) (limitedSearch I (limitedStart k))
 
--- the plan of the set that a search settled on
-unfoldable pub planOf : Instance → Settled → Plan
-planOf I r = plan I (r .set) (r .cost) (r .moves)
+-- the plan of the set that a search settled on, with byte 3 of each farm's record
+unfoldable pub planOf : Instance → (ℕ → ℕ) → Settled → Plan
+planOf I byte3 r = plan I byte3 (r .set) (r .cost) (r .moves)

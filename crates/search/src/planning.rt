@@ -8,7 +8,7 @@ ghost use lib.ListN.{length};
 ghost use Rattle.model.specs.Search.{search};
 ghost use Rattle.record.specs.Records.{amountEnd};
 ghost use Rattle.questions.specs.Bounds.{mostYards};
-ghost use Rattle.questions.specs.Sheet.{instanceBy};
+ghost use Rattle.questions.specs.Sheet.{farmByte, instanceBy};
 ghost use Rattle.questions.specs.Shape.{Shape};
 ghost use Rattle.questions.specs.Answers.{accepted};
 ghost use Rattle.questions.specs.Reading.{counts, reading};
@@ -39,7 +39,7 @@ pub struct Settled {
     pub moves: u64,
 }
 
-// Asks questions 1 to 6, 7 and 9, and writes the plan. An open plan is asked for with k of 1, which question 7 passes.
+// Asks what reading asks, then questions 7 and 9, and writes the plan. An open plan is asked for with k of 1, which question 7 passes.
 pub(crate) fn plan_with(
     neighbourhood: Neighbourhood,
     sheet: &[u8],
@@ -78,13 +78,13 @@ fn plan_by(
     area: &mut [u8],
 ) -> Planned
     requires { ⌜ (reading (now sheet) ≡ accepted (counts m n)) × (1 ≤ k) × (k ≤ m) × (question9 m n (length (now area)) ≡ true) ⌝ }
-    ensures answer { λ r. ⌜ plannedAnswer r ≡ answer (accepted (planOf (instanceBy (now (sheet .entry)) m n) (endBy neighbourhood (instanceBy (now (sheet .entry)) m n) k))) ⌝ }
-    ensures area { λ r. ⌜ now (area .exit) ≡ areaAfter (accepted (planOf (instanceBy (now (sheet .entry)) m n) (endBy neighbourhood (instanceBy (now (sheet .entry)) m n) k))) (now (area .entry)) ⌝ }
+    ensures answer { λ r. ⌜ plannedAnswer r ≡ answer (accepted (planOf (instanceBy (now (sheet .entry)) m n) (farmByte (now (sheet .entry)) m) (endBy neighbourhood (instanceBy (now (sheet .entry)) m n) k))) ⌝ }
+    ensures area { λ r. ⌜ now (area .exit) ≡ areaAfter (accepted (planOf (instanceBy (now (sheet .entry)) m n) (farmByte (now (sheet .entry)) m) (endBy neighbourhood (instanceBy (now (sheet .entry)) m n) k))) (now (area .entry)) ⌝ }
 {
     let mut opening = [0u64; MOST_YARDS];
     let mut service = [0u32; HAULS];
     fill_opening(neighbourhood, sheet, m, n, &mut opening);
-    tables::fill(sheet, m, n * m, &mut service);
+    tables::fill_rows(sheet, m, n, &mut service);
     let settled = search_on(neighbourhood, &opening, &service, m, n, k);
     write(sheet, m, n, settled, area)
 }
@@ -141,8 +141,8 @@ fn start_of(neighbourhood: Neighbourhood, k: usize) -> Start
 // Writes the plan of the set that a search settled on; the moves are those made.
 fn write(sheet: &[u8], m: usize, n: usize, settled: Settled, area: &mut [u8]) -> Planned
     requires { ⌜ Shape (now sheet) m n × (question9 m n (length (now area)) ≡ true) × (settled .cost < amountEnd) × (settled .moves < amountEnd) ⌝ }
-    ensures answer { λ r. ⌜ plannedAnswer r ≡ answer (accepted (planOf (instanceBy (now (sheet .entry)) m n) settled)) ⌝ }
-    ensures area { λ r. ⌜ now (area .exit) ≡ areaAfter (accepted (planOf (instanceBy (now (sheet .entry)) m n) settled)) (now (area .entry)) ⌝ }
+    ensures answer { λ r. ⌜ plannedAnswer r ≡ answer (accepted (planOf (instanceBy (now (sheet .entry)) m n) (farmByte (now (sheet .entry)) m) settled)) ⌝ }
+    ensures area { λ r. ⌜ now (area .exit) ≡ areaAfter (accepted (planOf (instanceBy (now (sheet .entry)) m n) (farmByte (now (sheet .entry)) m) settled)) (now (area .entry)) ⌝ }
 {
     let moves = settled.moves as u32;
     let bytes = price::write_plan(sheet, m, n, settled.set, settled.cost as u32, moves, area);

@@ -13,7 +13,7 @@ use Rattle.record.specs.Records.{recordOf, recordAt}
 use Rattle.record.proofs.RecordLaws.{part-record}
 use Rattle.questions.specs.Bounds.{haulKind}
 use Rattle.questions.specs.Answers.{Answer, accepted, refused}
-use Rattle.questions.specs.Sheet.{place, haul}
+use Rattle.questions.specs.Sheet.{place, haul, loadsByte}
 use Rattle.questions.specs.Shape.{Shape}
 use Rattle.questions.specs.Reading.{Counts, counts, form}
 use Rattle.sheet.specs.Stretch.{stretch, stretchBy, farmHauls, fromBy, farmFrom, HaulsFrom}
@@ -49,7 +49,7 @@ module _ (s : List ℕ) (m n p : ℕ) (h : form s ≡ accepted (counts m n)) whe
     pub farm-length : length (farmHauls s p) ≡ 8 * m
     farm-length = rw farm-stretch (stretch-length s m n p (shape-of (has-form s m n h)) below)
 
-    pub farm-record : (a : ℕ) → a < m → recordAt (farmHauls s p) a ≡ recordOf haulKind a p 0 (haul s m a p)
+    pub farm-record : (a : ℕ) → a < m → recordAt (farmHauls s p) a ≡ recordOf haulKind a p (loadsByte s m a p) (haul s m a p)
     farm-record a la =
         let f = has-form s m n h in
         rw farm-stretch (stretch-record s m n p (shape-of f) below a la ∙ f .haul-record a p la below)
@@ -99,7 +99,7 @@ farm-begins s p = go (form s) refl
 
 -- so whoever is told the place finds the farm's haul records there
 pub hauls-told : (s : List ℕ) (m n p r a : ℕ) → form s ≡ accepted (counts m n) → p < n → a < m
-    → HaulsFrom s p r → recordAt (drop r s) a ≡ recordOf haulKind a p 0 (haul s m a p)
+    → HaulsFrom s p r → recordAt (drop r s) a ≡ recordOf haulKind a p (loadsByte s m a p) (haul s m a p)
 hauls-told s m n p r a good farm yard told =
     let long = farm-length s m n p good farm in
     let here : take (8 * m) (drop r s) ≡ farmHauls s p = ap (λ (k : ℕ). take k (drop r s)) (sym long) ∙ told .1 in

@@ -1,6 +1,6 @@
 // The haul sheet, read where it lies.
 //
-// `read` asks questions 1 to 6 of document 01, `farm_hauls` gives one farm's stretch of the sheet. Every call is total: it takes any
+// `read` asks questions 1 to 6 of document 01, with 10 of document 02 after 4, `farm_hauls` gives one farm's stretch. Every call is total: it takes any
 // bytes at all.
 mod one_pass;
 
@@ -15,7 +15,7 @@ ghost use Rattle.sheet.specs.OnePass.{Fails};
 use one_pass::OnePass;
 use record::Record;
 
-// The counts of yards and farms, or the number of the first question of 1 to 6 that is answered no.
+// The counts of yards and farms, or the number of the first question of 1 to 4, 10, 5 and 6 that is answered no.
 pub fn read(sheet: &[u8]) -> Reading
     ensures { λ r. ⌜ readingAnswer r ≡ reading (now (sheet .entry)) ⌝ }
 {
@@ -31,12 +31,12 @@ pub fn read(sheet: &[u8]) -> Reading
     }
 }
 
-// The answer to a sheet that some question of 1 to 5 turns down: it is 5 where 1 to 4 do not.
+// The answer to a sheet that some question before 6 turns down: it is 5 where 1 to 4 and 10 do not.
 fn refusal(sheet: &[u8]) -> Reading
     requires { ⌜ Fails (now sheet) ⌝ }
     ensures { λ r. ⌜ readingAnswer r ≡ reading (now (sheet .entry)) ⌝ }
 {
-    match questions::form_of(sheet) {
+    match questions::form_and_loads_of(sheet) {
         Reading::Accepted { yards: _, farms: _ } => Reading::Refused(5),
         Reading::Refused(number) => Reading::Refused(number),
     }

@@ -1,4 +1,4 @@
-// Questions 1 to 5 in one pass over a good sheet, which puts its hauls in the table of question 6 as it goes. Where the pass finds a
+// Questions 1 to 4, 10 and 5 in one pass over a good sheet, which puts its hauls in the table of question 6 as it goes. Where the pass finds a
 // fault, the questions are asked one by one, for the number of the first that is answered no.
 ghost use mathlib.Core.Path.{_≡_};
 ghost use mathlib.Core.Bool.{true};
@@ -14,6 +14,7 @@ use questions::KIND_YARD;
 use questions::LEAST_BYTES;
 use questions::MOST_BYTES;
 use questions::MOST_FARMS;
+use questions::MOST_LOADS;
 use questions::MOST_YARDS;
 use record::Record;
 
@@ -21,7 +22,7 @@ const MOST_FEE: u32 = 50000000;
 
 const MOST_HAUL: u32 = 1000000;
 
-// What the one pass answers: the counts of a sheet that passes questions 1 to 5, or that it finds some fault.
+// What the one pass answers: the counts of a sheet that passes these questions, or that it finds some fault.
 pub(crate) enum OnePass {
     Good { yards: usize, farms: usize },
     Faulty,
@@ -71,14 +72,16 @@ fn record_within(sheet: &[u8], i: usize) -> Record
     Record::at(&sheet[at..at + Record::LEN], 0)
 }
 
-// The record that a place asks for: well-formed, of this kind, with this yard and this farm, the amount at most `most`.
-fn record_is(tested: Record, kind: u8, yard: u8, farm: u8, most: u32) -> bool
-    ensures { λ r. ⌜ r ≡ recordIs tested kind yard farm most ⌝ }
+// The record that a place asks for: well-formed, of this kind, with this yard, this farm and this byte 3, the amount at most `most`.
+fn record_is(tested: Record, kind: u8, yard: u8, farm: u8, byte3: u8, most: u32) -> bool
+    ensures { λ r. ⌜ r ≡ recordIs tested kind yard farm byte3 most ⌝ }
 {
     if !questions::well_formed(tested) {
         return false;
     }
-    tested.kind == kind && (tested.yard == yard && (tested.farm == farm && tested.amount <= most))
+    tested.kind == kind
+        && (tested.yard == yard
+            && (tested.farm == farm && (tested.byte3 == byte3 && tested.amount <= most)))
 }
 
 // How many yards stand first, where they are not too many and each is good; else 0.
@@ -95,7 +98,7 @@ fn good_yards(sheet: &[u8]) -> usize
         if MOST_YARDS <= i {
             return 0;
         }
-        if !record_is(record, KIND_YARD, i as u8, 0, MOST_FEE) {
+        if !record_is(record, KIND_YARD, i as u8, 0, 0, MOST_FEE) {
             return 0;
         }
         i += 1;
@@ -103,16 +106,20 @@ fn good_yards(sheet: &[u8]) -> usize
     i
 }
 
-// Tests farm p's haul records, and puts each haul in the row of its yard.
+// Tests farm p's haul records, and puts each haul in the row of its yard. The first one's loads are asked of all.
 fn good_farm(sheet: &[u8], m: usize, p: usize, table: &mut [u32]) -> bool
     requires { ⌜ Shape (now sheet) m (p + 1) × Filled (now sheet) m p 0 (now table) ⌝ }
     ensures good { λ r. ⌜ r ≡ goodFarm (now (sheet .entry)) m p ⌝ }
     ensures filled { λ r. ⌜ (r ≡ true → Filled (now (sheet .entry)) m (p + 1) 0 (now (table .exit))) ⌝ }
 {
+    let loads = record_within(sheet, m + p * m).byte3;
+    if MOST_LOADS < loads {
+        return false;
+    }
     let mut a = 0;
     while a < m {
         let record = record_within(sheet, m + p * m + a);
-        if !record_is(record, KIND_HAUL, a as u8, p as u8, MOST_HAUL) {
+        if !record_is(record, KIND_HAUL, a as u8, p as u8, loads, MOST_HAUL) {
             return false;
         }
         table[four_point::ROW_PLACES * a + p] = record.amount;

@@ -15,6 +15,9 @@ sheet plan FILE K            the limited plan for K yards
 sheet price FILE YARD ..     the price of a set of yards, given by their numbers
 
 show, plan and price take the names of yards and farms from the table: --names TABLE.csv
+In the table, line 1 has the word cents and the names of the yards, line 2 the word fee and their fees, and each line after
+them the name of a farm and the haul of one load to each yard. The second column, right after the names of the farms, may be
+headed loads: each farm's loads, 1 to 20, an empty cell for one load, and no fee.
 Exit status: 0 accepted, 1 refused or a faulty table, 2 wrong usage or a file that cannot be used, 3 a defect of the program.
 ";
 

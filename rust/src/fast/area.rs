@@ -3,10 +3,11 @@ use super::near::HaulTo;
 use super::sheet::{Amounts, Hauls};
 use super::sum::Sum;
 use super::yards::Yards;
-use crate::format::{record, FARM, MOVES, OPEN, RECORD, TOTAL};
+use crate::format::{record, record_with_loads, FARM, MOVES, OPEN, RECORD, TOTAL};
 use crate::Written;
 
-/// Writes the plan that opens these yards and serves each farm so. Its total counts these fees.
+/// Writes the plan that opens these yards and serves each farm so. Its total counts these fees, and hauls times loads; `sum` has
+/// why it fits.
 pub fn write<S: Sum>(
     hauls: &Hauls,
     yards: &Yards,
@@ -24,8 +25,8 @@ pub fn write<S: Sum>(
         total += fees[yard];
     }
     for ((farm, place), to) in farms.iter_mut().enumerate().zip(served) {
-        *place = record(FARM, to.yard(), farm, to.haul());
-        total += to.haul();
+        *place = record_with_loads(FARM, to.yard(), farm, hauls.loads_bytes[farm], to.haul());
+        total += hauls.loads(farm) * to.haul();
     }
     last[0] = record(TOTAL, open.len(), farms.len(), total);
     last[1] = record(MOVES, 0, 0, moves);

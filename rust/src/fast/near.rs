@@ -5,8 +5,8 @@ use super::yards::{Ranked, Yards, YARD_BITS};
 use crate::format::{HIGHEST_HAUL, MOST_YARDS};
 use std::array::from_fn;
 
-/// A haul and its yard in one number, the haul in the high bits, then the yard's rank, then its number: of two the lesser has
-/// the smaller haul, or the lower rank where the hauls are equal.
+/// A haul of one load and its yard in one number, the haul in the high bits, then the yard's rank, then its number: of two
+/// the lesser has the smaller haul, or the lower rank where the hauls are equal.
 #[derive(Clone, Copy, PartialEq, Eq, PartialOrd, Ord)]
 pub struct HaulTo<S>(S);
 

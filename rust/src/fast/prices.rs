@@ -1,4 +1,5 @@
 //! The costs of all moves from a set, and the move that is taken.
+use super::loads::{alone, FarmCosts};
 use super::near::Near;
 use super::sheet::{Amounts, Hauls};
 use super::sum::Sum;
@@ -16,39 +17,39 @@ pub struct Prices<S> {
 }
 
 impl<S: Sum> Prices<S> {
-    /// The sums before any farm is counted in: until then it pays its haul to the yard that is added.
-    pub fn none(hauls: &Hauls) -> Prices<S> {
+    /// The sums before any farm is counted in: until then it pays its cost to the yard that is added.
+    pub fn none(costs: &[Amounts]) -> Prices<S> {
         let none = S::default();
-        Prices { added: hauls.alone(), more: [[none; MOST_YARDS]; MOST_YARDS], loss: [none; MOST_YARDS] }
+        Prices { added: alone(costs), more: [[none; MOST_YARDS]; MOST_YARDS], loss: [none; MOST_YARDS] }
     }
 
     /// Counts a farm in.
-    pub fn put(&mut self, row: &Amounts, near: Near<S>) {
-        self.count(row, near, S::add, S::sub);
+    pub fn put(&mut self, farm: FarmCosts, near: Near<S>) {
+        self.count(farm, near, S::add, S::sub);
     }
 
     /// Counts a farm again whose nearest yards change. Where the first stays, no cost of adding a yard changes.
-    pub fn change(&mut self, row: &Amounts, before: Near<S>, after: Near<S>) {
+    pub fn change(&mut self, farm: FarmCosts, before: Near<S>, after: Near<S>) {
         if before.first != after.first {
-            self.count(row, before, S::sub, S::add);
-            self.put(row, after);
+            self.count(farm, before, S::sub, S::add);
+            self.put(farm, after);
             return;
         }
         let out = after.first.yard();
-        let (before, after) = (before.second.haul(), after.second.haul());
+        let (before, after) = (farm.loads * before.second.haul(), farm.loads * after.second.haul());
         self.loss[out] = self.loss[out] + S::from(after) - S::from(before);
         if before < after {
-            self.shift(row, out, before, after, S::add);
+            self.shift(farm.row, out, before, after, S::add);
         } else {
-            self.shift(row, out, after, before, S::sub);
+            self.shift(farm.row, out, after, before, S::sub);
         }
     }
 
-    /// What the farms of a yard going out pay more, raised or lowered by what hauls are above the low one and not above the high one.
+    /// What the farms of a yard going out pay more, raised or lowered by what costs are above the low one and not above the high one.
     #[inline(always)]
-    fn shift(&mut self, row: &Amounts, out: usize, low: u32, high: u32, change: impl Fn(S, S) -> S) {
-        for (more, hauls) in self.more[out].as_chunks_mut::<4>().0.iter_mut().zip(row.as_chunks::<4>().0) {
-            let by = hauls.map(|haul| over(haul, low) - over(haul, high));
+    fn shift(&mut self, costs: &Amounts, out: usize, low: u32, high: u32, change: impl Fn(S, S) -> S) {
+        for (more, costs) in self.more[out].as_chunks_mut::<4>().0.iter_mut().zip(costs.as_chunks::<4>().0) {
+            let by = costs.map(|cost| over(cost, low) - over(cost, high));
             for at in 0..4 {
                 more[at] = change(more[at], S::from(by[at]));
             }
@@ -57,16 +58,16 @@ impl<S: Sum> Prices<S> {
 
     /// Counts a farm in, or out with plus and minus exchanged.
     #[inline(always)]
-    fn count(&mut self, row: &Amounts, near: Near<S>, plus: impl Fn(S, S) -> S, minus: impl Fn(S, S) -> S) {
-        let (first, second) = (near.first.haul(), near.second.haul());
+    fn count(&mut self, farm: FarmCosts, near: Near<S>, plus: impl Fn(S, S) -> S, minus: impl Fn(S, S) -> S) {
+        let (first, second) = (farm.loads * near.first.haul(), farm.loads * near.second.haul());
         let out = near.first.yard();
         self.loss[out] = plus(self.loss[out], S::from(second - first));
         let sums = self.added.as_chunks_mut::<4>().0.iter_mut().zip(self.more[out].as_chunks_mut::<4>().0);
-        for ((added, more), hauls) in sums.zip(row.as_chunks::<4>().0) {
-            let above = hauls.map(|haul| over(haul, first));
+        for ((added, more), costs) in sums.zip(farm.row.as_chunks::<4>().0) {
+            let above = costs.map(|cost| over(cost, first));
             for at in 0..4 {
                 added[at] = minus(added[at], S::from(above[at]));
-                more[at] = plus(more[at], S::from(above[at] - over(hauls[at], second)));
+                more[at] = plus(more[at], S::from(above[at] - over(costs[at], second)));
             }
         }
     }
@@ -113,11 +114,11 @@ impl<S: Sum> Prices<S> {
     }
 }
 
-/// What a haul is above another one, or 0. Every x86-64 processor compares signed numbers by vector, unsigned ones not:
+/// What a cost is above another one, or 0. Every x86-64 processor compares signed numbers by vector, unsigned ones not:
 /// `saturating_sub` would take more instructions.
 #[inline(always)]
-fn over(haul: u32, other: u32) -> u32 {
-    (haul as i32 - other as i32).max(0) as u32
+fn over(cost: u32, other: u32) -> u32 {
+    (cost as i32 - other as i32).max(0) as u32
 }
 
 /// The least cost so far, and the first set in order that has it where it is below the present cost.

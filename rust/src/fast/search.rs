@@ -1,5 +1,6 @@
 //! The searches for both plans.
 use super::area;
+use super::loads::alone;
 use super::near::Near;
 use super::prices::Prices;
 use super::sheet::{Amounts, Hauls};
@@ -10,7 +11,14 @@ use crate::Written;
 
 /// The open plan of an accepted sheet, in an area that question 9 accepts.
 pub fn open_plan_of<S: Sum>(hauls: &Hauls, area: &mut [u8]) -> Written {
-    let mut search = Search::<S>::new(hauls, 1 << cheapest_yard::<S>(hauls));
+    if hauls.one_load_each() {
+        return open_plan_at::<S>(hauls, hauls.rows(), area);
+    }
+    open_plan_at::<S>(hauls, &hauls.times_loads()[..hauls.farms], area)
+}
+
+fn open_plan_at<S: Sum>(hauls: &Hauls, costs: &[Amounts], area: &mut [u8]) -> Written {
+    let mut search = Search::<S>::new(hauls, costs, 1 << cheapest_yard::<S>(hauls, costs));
     while let Some(next) = search.prices.open_move(hauls, search.set, &search.yards) {
         search.go_to(next);
     }
@@ -19,7 +27,14 @@ pub fn open_plan_of<S: Sum>(hauls: &Hauls, area: &mut [u8]) -> Written {
 
 /// The limited plan of an accepted sheet for a k that question 7 accepts, in an area that question 9 accepts.
 pub fn limited_plan_of<S: Sum>(hauls: &Hauls, k: usize, area: &mut [u8]) -> Written {
-    let mut search = Search::<S>::new(hauls, u32::MAX >> (MOST_YARDS - k));
+    if hauls.one_load_each() {
+        return limited_plan_at::<S>(hauls, hauls.rows(), k, area);
+    }
+    limited_plan_at::<S>(hauls, &hauls.times_loads()[..hauls.farms], k, area)
+}
+
+fn limited_plan_at<S: Sum>(hauls: &Hauls, costs: &[Amounts], k: usize, area: &mut [u8]) -> Written {
+    let mut search = Search::<S>::new(hauls, costs, u32::MAX >> (MOST_YARDS - k));
     while let Some(next) = search.prices.limited_move(search.set, &search.yards) {
         search.go_to(next);
     }
@@ -27,14 +42,15 @@ pub fn limited_plan_of<S: Sum>(hauls: &Hauls, k: usize, area: &mut [u8]) -> Writ
 }
 
 /// The single yard of least full cost, the lowest number among equals.
-fn cheapest_yard<S: Sum>(hauls: &Hauls) -> usize {
-    let alone = hauls.alone::<S>();
+fn cheapest_yard<S: Sum>(hauls: &Hauls, costs: &[Amounts]) -> usize {
+    let alone = alone::<S>(costs);
     (0..hauls.yards).min_by_key(|&yard| S::from(hauls.fees[yard]) + alone[yard]).unwrap_or(0)
 }
 
 /// A set on the way, with each farm's nearest yards and the costs of all moves.
 struct Search<'a, S> {
     hauls: &'a Hauls,
+    costs: &'a [Amounts],
     ranks: Ranks,
     set: u32,
     yards: Yards,
@@ -44,18 +60,18 @@ struct Search<'a, S> {
 }
 
 impl<'a, S: Sum> Search<'a, S> {
-    fn new(hauls: &'a Hauls, set: u32) -> Search<'a, S> {
+    fn new(hauls: &'a Hauls, costs: &'a [Amounts], set: u32) -> Search<'a, S> {
         let ranks = ranks(&hauls.fees);
         let yards = Yards::of(set, &ranks);
         let mut near = [Near::none(); MOST_FARMS];
-        let mut prices = Prices::none(hauls);
+        let mut prices = Prices::none(costs);
         for (rows, near) in hauls.rows_by_four().iter().zip(near.as_chunks_mut().0) {
             *near = Near::of_four(rows, &yards);
         }
-        for (row, &near) in hauls.rows().iter().zip(&near) {
-            prices.put(row, near);
+        for (farm, &near) in near[..hauls.farms].iter().enumerate() {
+            prices.put(hauls.costs_of(farm, costs), near);
         }
-        Search { hauls, ranks, set, yards, moves: 0, near, prices }
+        Search { hauls, costs, ranks, set, yards, moves: 0, near, prices }
     }
 
     /// Makes the move to this set. Only the farms whose nearest yards change are priced again.
@@ -77,7 +93,7 @@ impl<'a, S: Sum> Search<'a, S> {
     #[inline(always)]
     fn price_again(&mut self, came: u32, went: u32, touched: impl Fn(&Amounts, Near<S>) -> bool) {
         let yard = self.ranks[came.trailing_zeros() as usize % MOST_YARDS];
-        for (row, near) in self.hauls.rows().iter().zip(&mut self.near) {
+        for (farm, (row, near)) in self.hauls.rows().iter().zip(&mut self.near).enumerate() {
             let before = *near;
             if !touched(row, before) {
                 continue;
@@ -88,7 +104,7 @@ impl<'a, S: Sum> Search<'a, S> {
             if near.goes_to(went) {
                 *near = near.without(went, row, &self.yards);
             }
-            self.prices.change(row, before, *near);
+            self.prices.change(self.hauls.costs_of(farm, self.costs), before, *near);
         }
     }
 

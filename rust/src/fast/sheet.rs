@@ -1,8 +1,7 @@
-//! Questions 1 to 5, and a sheet as a table.
+//! Questions 1 to 5 with 10 after 4, and a sheet as a table.
 use super::rule;
-use super::sum::Sum;
 use crate::format::{
-    HAUL, HIGHEST_FEE, HIGHEST_HAUL, LONGEST_SHEET, MOST_FARMS, MOST_YARDS, RECORD, SHORTEST_SHEET, YARD,
+    HAUL, HIGHEST_FEE, HIGHEST_HAUL, LONGEST_SHEET, MOST_FARMS, MOST_LOADS, MOST_YARDS, RECORD, SHORTEST_SHEET, YARD,
 };
 use crate::Answer;
 
@@ -10,21 +9,24 @@ type Record = [u8; RECORD];
 /// An amount for each yard.
 pub type Amounts = [u32; MOST_YARDS];
 
-/// The fees and hauls of a sheet. A place past the last yard has the highest fee and the highest hauls, so that no move to
-/// it lowers a cost.
+/// The fees, hauls and loads of a sheet. A place past the last yard has the highest fee and the highest hauls, so that no
+/// move to it lowers a cost.
 pub struct Hauls {
     pub yards: usize,
     pub farms: usize,
     pub fees: Amounts,
+    /// For each farm, the byte that holds its loads.
+    pub loads_bytes: [u8; MOST_FARMS],
     rows: [Amounts; MOST_FARMS],
 }
 
 impl Hauls {
     pub fn none() -> Hauls {
-        Hauls { yards: 0, farms: 0, fees: [HIGHEST_FEE; MOST_YARDS], rows: [[0; MOST_YARDS]; MOST_FARMS] }
+        let (fees, rows) = ([HIGHEST_FEE; MOST_YARDS], [[0; MOST_YARDS]; MOST_FARMS]);
+        Hauls { yards: 0, farms: 0, fees, loads_bytes: [0; MOST_FARMS], rows }
     }
 
-    /// The hauls of each farm.
+    /// The hauls of each farm, of one load.
     pub fn rows(&self) -> &[Amounts] {
         &self.rows[..self.farms]
     }
@@ -34,18 +36,7 @@ impl Hauls {
         &self.rows.as_chunks().0[..self.farms.div_ceil(4)]
     }
 
-    /// The haul cost of each yard by itself.
-    pub fn alone<S: Sum>(&self) -> [S; MOST_YARDS] {
-        let mut costs = [S::default(); MOST_YARDS];
-        for row in self.rows() {
-            for (cost, &haul) in costs.iter_mut().zip(row) {
-                *cost += S::from(haul);
-            }
-        }
-        costs
-    }
-
-    /// Asks questions 1 to 6, and fills a table that has nothing yet.
+    /// Asks questions 1 to 4, 10, 5 and 6, and fills a table that has nothing yet.
     pub fn read(&mut self, sheet: &[u8]) -> Answer<()> {
         if !sheet.len().is_multiple_of(RECORD) || !(SHORTEST_SHEET..=LONGEST_SHEET).contains(&sheet.len()) {
             return Err(1);
@@ -60,7 +51,7 @@ impl Hauls {
         Ok(())
     }
 
-    /// Fills the table in one pass over the records, and says whether questions 2 to 5 are all answered yes.
+    /// Fills the table in one pass over the records, and says whether questions 2 to 5 and 10 are all answered yes.
     fn fill(&mut self, records: &[Record]) -> bool {
         let yards = yards_first(records);
         if !(1..=MOST_YARDS).contains(&yards) || !records.len().is_multiple_of(yards) {
@@ -73,28 +64,32 @@ impl Hauls {
         self.yards = yards;
         self.farms = farms;
         let (fees, hauls) = records.split_at(yards);
-        let mut faults = amounts(fees, YARD, 0, HIGHEST_FEE, |yard, fee| self.fees[yard] = fee);
+        let mut faults = amounts(fees, [YARD, 0, 0, 0], HIGHEST_FEE, |yard, fee| self.fees[yard] = fee);
+        let mut most_loads = 0;
         for (farm, (row, records)) in self.rows.iter_mut().zip(hauls.chunks_exact(yards)).enumerate() {
-            faults |= fill_row(row, records, farm as u8);
+            let loads = records[0][3];
+            self.loads_bytes[farm] = loads;
+            most_loads = most_loads.max(loads);
+            faults |= fill_row(row, records, [HAUL, 0, farm as u8, loads]);
         }
-        faults == 0
+        faults == 0 && most_loads <= MOST_LOADS
     }
 }
 
 /// Writes a farm's hauls to its row; gives 0 where its records are right. Of a full row the compiler knows the length.
-fn fill_row(row: &mut Amounts, records: &[Record], farm: u8) -> u32 {
+fn fill_row(row: &mut Amounts, records: &[Record], head: [u8; 4]) -> u32 {
     if let Some(full) = records.as_array::<MOST_YARDS>() {
-        return amounts(full, HAUL, farm, HIGHEST_HAUL, |yard, haul| row[yard] = haul);
+        return amounts(full, head, HIGHEST_HAUL, |yard, haul| row[yard] = haul);
     }
     *row = [HIGHEST_HAUL; MOST_YARDS];
-    amounts(records, HAUL, farm, HIGHEST_HAUL, |yard, haul| row[yard] = haul)
+    amounts(records, head, HIGHEST_HAUL, |yard, haul| row[yard] = haul)
 }
 
-/// Hands on the amount of each record. Gives 0 where every record has this kind, the yard number of its place, this farm
-/// number, a zero in byte 3 and an amount up to the highest.
+/// Hands on the amount of each record. Gives 0 where every record has the kind, the farm number and the byte 3 of this
+/// head, the yard number of its place and an amount up to the highest.
 #[inline(always)]
-fn amounts(records: &[Record], kind: u8, farm: u8, highest: u32, mut put: impl FnMut(usize, u32)) -> u32 {
-    let head = u64::from(u32::from_le_bytes([kind, 0, farm, 0]));
+fn amounts(records: &[Record], head: [u8; 4], highest: u32, mut put: impl FnMut(usize, u32)) -> u32 {
+    let head = u64::from(u32::from_le_bytes(head));
     let last = u64::from(highest) << 32 | u64::from(u32::MAX);
     let mut differences = 0;
     let mut rests = 0;
@@ -113,9 +108,9 @@ fn yards_first(records: &[Record]) -> usize {
     records.iter().take_while(|record| record[0] == YARD).count()
 }
 
-/// The number of the first question of 2 to 5 that is answered no, where one is.
+/// The number of the first question of 2, 3, 4, 10 and 5 that is answered no, where one is.
 fn first_no(records: &[Record]) -> u8 {
-    let formed = |&[kind, _, farm, zero, ..]: &Record| zero == 0 && (kind == HAUL || kind == YARD && farm == 0);
+    let formed = |&[kind, _, farm, byte_3, ..]: &Record| kind == HAUL || kind == YARD && farm == 0 && byte_3 == 0;
     if !records.iter().all(formed) {
         return 2;
     }
@@ -133,6 +128,13 @@ fn first_no(records: &[Record]) -> u8 {
     };
     if !full_farms || !hauls.chunks_exact(yards).enumerate().all(in_place) {
         return 4;
+    }
+    let loaded = |records: &[Record]| {
+        let loads = records[0][3];
+        loads <= MOST_LOADS && records.iter().all(|record| record[3] == loads)
+    };
+    if !hauls.chunks_exact(yards).all(loaded) {
+        return 10;
     }
     5
 }

@@ -1,8 +1,10 @@
 //! What costs are summed in, and what a haul and its yard stand in together.
+use crate::format::{HIGHEST_FEE, HIGHEST_HAUL, MOST_FARMS, MOST_LOADS, MOST_YARDS};
 use std::iter;
 use std::ops::{Add, AddAssign, BitOr, Shl, Shr, Sub};
 
-/// 32 bits are enough for the sheets of document 01. The library counts in 64, for the requests of document 02.
+/// 32 bits are enough for the sheets of document 01 with the loads of paper 2. The library counts in 64, for the later
+/// requests of document 02.
 pub trait Sum:
     Copy
     + Ord
@@ -21,6 +23,13 @@ pub trait Sum:
     fn lesser(self, other: Self) -> Self;
     fn greater(self, other: Self) -> Self;
 }
+
+/// The highest number that a search comes to: every haul and every fee at its highest, and one fee more, that of a yard
+/// coming in before that of the yard going out is taken off, or the other way round. It is above what signed numbers of 32
+/// bits hold, so costs are compared as unsigned ones.
+const HIGHEST_COST: u64 =
+    MOST_FARMS as u64 * MOST_LOADS as u64 * HIGHEST_HAUL as u64 + (MOST_YARDS as u64 + 1) * HIGHEST_FEE as u64;
+const _: () = assert!(HIGHEST_COST <= u32::MAX as u64);
 
 /// Every x86-64 processor compares signed numbers of 32 bits by vector, unsigned ones not.
 impl Sum for u32 {

@@ -1,4 +1,4 @@
-//! Document 01, "The haul sheet".
+//! Document 01, "The haul sheet", and the loads of paper 2 of document 02.
 
 /// Every record, of whatever kind, is eight bytes.
 pub const RECORD_BYTES: usize = 8;
@@ -6,10 +6,11 @@ pub const RECORD_BYTES: usize = 8;
 /// A yard: byte 2 is zero, the amount is its fee for the season.
 pub const YARD: u8 = 0x59;
 
-/// A haul: the amount is the price of one load from that farm to that yard.
+/// A haul: the amount is the price of one load from that farm to that yard. Byte 3 holds the farm's loads (paper 2).
 pub const HAUL: u8 = 0x48;
 
-/// Byte 0 the kind, byte 1 a yard number, byte 2 a farm number, byte 3 zero, bytes 4 to 7 an amount, lowest byte first.
+/// Byte 0 the kind, byte 1 a yard number, byte 2 a farm number, byte 3 zero but for loads, bytes 4 to 7 an amount, lowest
+/// byte first.
 #[derive(Clone, Copy)]
 pub struct Record {
     pub kind: u8,
@@ -43,6 +44,8 @@ pub struct HaulSheet {
     pub fees: Vec<u64>,
     /// For each farm, its hauls in yard order.
     pub hauls: Vec<Vec<u64>>,
+    /// For each farm, byte 3 of its hauls in yard order.
+    pub loads_bytes: Vec<Vec<u8>>,
 }
 
 impl HaulSheet {
@@ -50,7 +53,12 @@ impl HaulSheet {
     pub fn new(records: &[Record]) -> HaulSheet {
         let m = records.iter().filter(|record| record.kind == YARD).count();
         let (yards, hauls) = records.split_at(m);
-        HaulSheet { fees: amounts(yards), hauls: hauls.chunks(m).map(amounts).collect() }
+        let farms = || hauls.chunks(m);
+        HaulSheet {
+            fees: amounts(yards),
+            hauls: farms().map(amounts).collect(),
+            loads_bytes: farms().map(bytes_3).collect(),
+        }
     }
 
     pub fn m(&self) -> usize {
@@ -64,10 +72,27 @@ impl HaulSheet {
     pub fn haul(&self, yard: usize, farm: usize) -> u64 {
         self.hauls[farm][yard]
     }
+
+    /// The byte that question 10 finds in all of a farm's records.
+    pub fn loads_byte(&self, farm: usize) -> u8 {
+        self.loads_bytes[farm][0]
+    }
+
+    /// The farm's loads, 1 to 20, with 0 read as 1.
+    pub fn loads(&self, farm: usize) -> u64 {
+        match self.loads_byte(farm) {
+            0 => 1,
+            loads => loads.into(),
+        }
+    }
 }
 
 fn amounts(records: &[Record]) -> Vec<u64> {
     records.iter().map(|record| u64::from(record.amount)).collect()
+}
+
+fn bytes_3(records: &[Record]) -> Vec<u8> {
+    records.iter().map(|record| record.byte_3).collect()
 }
 
 /// The stretch of the sheet with the m hauls of a farm below n: it stands after the m yards and the hauls of the farms before.

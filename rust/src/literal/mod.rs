@@ -1,5 +1,5 @@
-//! Document 01 written a second time, sentence by sentence and in its order, with what document 02 changes, to compare the proved
-//! library with. Plain before fast: every question is asked over the whole sheet and every move is priced from nothing.
+//! Document 01, with papers 1 and 2 of document 02, written a second time, sentence by sentence and in its order, to compare the
+//! proved library with. Plain before fast: every question is asked over the whole sheet and every move is priced from nothing.
 mod haul_sheet;
 mod plan_area;
 mod questions;
@@ -13,13 +13,14 @@ use search::Settled;
 
 pub use search::{ChosenBy, Move};
 
-/// Reading asks 1 to 6 and returns m and n.
+/// Reading asks 1 to 6 and returns m and n. Wherever 1 to 6 are asked, paper 2 has 10 asked after 4.
 pub fn read(sheet: &[u8]) -> Answer<Counts> {
     let sheet = ask_1_to_6(sheet)?;
     Ok(Counts { yards: sheet.m(), farms: sheet.n() })
 }
 
 /// A farm's hauls as that stretch of the caller's sheet, empty for a farm n or above and where questions 1 to 4 turn it down.
+/// Question 10 is not asked here.
 pub fn farm_hauls(sheet: &[u8], farm: usize) -> &[u8] {
     match ask_1_to_4(sheet) {
         Ok(accepted) if farm < accepted.n() => haul_sheet::stretch(sheet, accepted.m(), farm),

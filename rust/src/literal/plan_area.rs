@@ -1,4 +1,4 @@
-//! Document 01, "The plan area".
+//! Document 01, "The plan area", with the loads of paper 2 of document 02.
 use super::haul_sheet::{HaulSheet, Record, RECORD_BYTES};
 use super::search::Settled;
 use crate::Written;
@@ -31,15 +31,17 @@ fn plan_records(sheet: &HaulSheet, settled: &Settled, total: u64) -> Vec<Record>
     }
     for farm in 0..sheet.n() {
         let yard = sheet.given_yard(settled.set, farm);
-        records.push(record(FARM, yard, farm, sheet.haul(yard, farm)));
+        let of_one_load = record(FARM, yard, farm, sheet.haul(yard, farm));
+        // Paper 2: the farm record repeats the byte, and still shows the haul of one load.
+        records.push(Record { byte_3: sheet.loads_byte(farm), ..of_one_load });
     }
     records.push(record(TOTAL, open.len(), sheet.n(), total));
     records.push(record(MOVES, 0, 0, settled.moves.len() as u64));
     records
 }
 
-/// A record of the plan. Its numbers are at most 128, and its amount at most the full cost of 32 yards and 128 farms, which is
-/// below the end of 32 bits, so nothing is lost. Bytes not named are zero.
+/// A record of the plan. Its numbers are at most 128, and its amount at most the full cost of 32 yards and 128 farms of 20 loads,
+/// which is 4,160,000,000 and below the end of 32 bits, so nothing is lost. Bytes not named are zero.
 fn record(kind: u8, byte_1: usize, byte_2: usize, amount: u64) -> Record {
     Record { kind, yard: byte_1 as u8, farm: byte_2 as u8, byte_3: 0, amount: amount as u32 }
 }

@@ -1,4 +1,4 @@
-//! Document 01, "Questions put to a call, first to last".
+//! Document 01, "Questions put to a call, first to last", with question 10 of paper 2 of document 02.
 use super::haul_sheet::{records, HaulSheet, Record, HAUL, RECORD_BYTES, YARD};
 use crate::Answer;
 
@@ -6,6 +6,7 @@ const LEAST_SHEET_BYTES: usize = 16;
 const MOST_SHEET_BYTES: usize = 33_024;
 const MOST_YARDS: usize = 32;
 const MOST_FARMS: usize = 128;
+const MOST_LOADS: u8 = 20;
 const HIGHEST_FEE: u64 = 50_000_000;
 const HIGHEST_HAUL: u64 = 1_000_000;
 const SET_BITS: usize = u32::BITS as usize;
@@ -29,9 +30,10 @@ pub fn ask_1_to_4(sheet: &[u8]) -> Answer<HaulSheet> {
     Ok(HaulSheet::new(&records))
 }
 
-/// The questions that every call but a farm's stretch asks.
+/// The questions that every call but a farm's stretch asks. Paper 2: 10 after question 4.
 pub fn ask_1_to_6(sheet: &[u8]) -> Answer<HaulSheet> {
     let sheet = ask_1_to_4(sheet)?;
+    ask(10, question_10(&sheet))?;
     ask(5, question_5(&sheet))?;
     ask(6, question_6(&sheet))?;
     Ok(sheet)
@@ -42,12 +44,14 @@ fn question_1(sheet: &[u8]) -> bool {
     sheet.len().is_multiple_of(RECORD_BYTES) && (LEAST_SHEET_BYTES..=MOST_SHEET_BYTES).contains(&sheet.len())
 }
 
-/// Is every kind 59 or 48 hex, every byte 3 zero, and byte 2 zero in every yard record?
+/// Is every kind 59 or 48 hex, and are byte 2 and byte 3 zero in every yard record? Paper 2: byte 3 of hauls is no longer
+/// tested.
 fn question_2(records: &[Record]) -> bool {
     records.iter().all(|record| {
         let kind_is_known = record.kind == YARD || record.kind == HAUL;
         let byte_2_is_right = record.kind != YARD || record.farm == 0;
-        kind_is_known && record.byte_3 == 0 && byte_2_is_right
+        let byte_3_is_right = record.kind != YARD || record.byte_3 == 0;
+        kind_is_known && byte_2_is_right && byte_3_is_right
     })
 }
 
@@ -78,13 +82,24 @@ fn yards_standing_first(records: &[Record]) -> usize {
     records.iter().take_while(|record| record.kind == YARD).count()
 }
 
+/// Paper 2: is byte 3 of every haul at most 20, and the same byte in all of a farm's records?
+fn question_10(sheet: &HaulSheet) -> bool {
+    let none_is_above = sheet.loads_bytes.iter().flatten().all(|&byte| byte <= MOST_LOADS);
+    let none_differs = (0..sheet.n()).all(|farm| {
+        let bytes = &sheet.loads_bytes[farm];
+        bytes.iter().all(|&byte| byte == sheet.loads_byte(farm))
+    });
+    none_is_above && none_differs
+}
+
 /// Is every fee at most 50,000,000 and every haul at most 1,000,000?
 fn question_5(sheet: &HaulSheet) -> bool {
     let fees_are_right = sheet.fees.iter().all(|&fee| fee <= HIGHEST_FEE);
     fees_are_right && sheet.hauls.iter().flatten().all(|&haul| haul <= HIGHEST_HAUL)
 }
 
-/// Four-point rule: for all yards a, b and all farms p, q, is haul(a, q) at most haul(a, p) + haul(b, p) + haul(b, q)?
+/// Four-point rule, about one load: for all yards a, b and all farms p, q, is haul(a, q) at most haul(a, p) + haul(b, p) +
+/// haul(b, q)?
 fn question_6(sheet: &HaulSheet) -> bool {
     for a in 0..sheet.m() {
         for b in 0..sheet.m() {

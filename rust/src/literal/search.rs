@@ -3,10 +3,11 @@ use super::haul_sheet::HaulSheet;
 use super::questions::marks;
 
 impl HaulSheet {
-    /// The sum over farms of the smallest haul to a yard of the set, which is not empty.
+    /// The sum over farms of the smallest haul to a yard of the set, which is not empty. Paper 2 of document 02: hauls
+    /// count times loads in every cost.
     pub fn haul_cost(&self, set: u32) -> u64 {
-        let smallest = |hauls: &Vec<u64>| self.open_yards(set).map(|yard| hauls[yard]).min();
-        self.hauls.iter().map(|hauls| smallest(hauls).expect("the set is not empty")).sum()
+        let smallest = |farm| self.open_yards(set).map(|yard| self.haul(yard, farm)).min();
+        (0..self.n()).map(|farm| self.loads(farm) * smallest(farm).expect("the set is not empty")).sum()
     }
 
     pub fn fees_of(&self, set: u32) -> u64 {
@@ -18,7 +19,7 @@ impl HaulSheet {
         self.haul_cost(set) + self.fees_of(set)
     }
 
-    /// Paper 1 of document 02: the yard of the set with the smallest haul, among equals the one with the lower fee, and only then
+    /// Paper 1: the yard of the set with the smallest haul, among equals the one with the lower fee, and only then
     /// the lower number. This holds in every plan and in pricing.
     pub fn given_yard(&self, set: u32, farm: usize) -> usize {
         let rank = |&yard: &usize| (self.haul(yard, farm), self.fees[yard], yard);

@@ -1,4 +1,5 @@
-//! What only this program tells: the moves one by one, the costs of sets, what a yard is chosen by, a farm's stretch.
+//! What only this program tells: the moves one by one, the costs of sets, what a yard is chosen by, a farm's stretch; and each of
+//! these with loads.
 use super::*;
 
 fn sheet<const M: usize>(fees: [u8; M], farms: &[[u8; M]]) -> Vec<u8> {
@@ -16,6 +17,14 @@ fn sheet<const M: usize>(fees: [u8; M], farms: &[[u8; M]]) -> Vec<u8> {
 
 fn sheet_s() -> Vec<u8> {
     sheet([1, 4, 2], &[[1, 3, 9], [5, 1, 5], [9, 5, 1]])
+}
+
+/// The sheet of three yards with this byte 3 in all hauls of each farm.
+fn with_loads(mut sheet: Vec<u8>, loads: &[u8]) -> Vec<u8> {
+    for (hauls, byte) in sheet[24..].chunks_mut(24).zip(loads) {
+        hauls.iter_mut().skip(3).step_by(8).for_each(|byte_3| *byte_3 = *byte);
+    }
+    sheet
 }
 
 #[test]
@@ -60,6 +69,86 @@ fn costs_of_s() {
     assert_eq!(costs(0b011), (7, 5));
     assert_eq!(costs(0b101), (7, 3));
     assert_eq!(costs(0b111), (3, 7));
+}
+
+#[test]
+fn costs_of_s_with_loads() {
+    // The hauls times 2, 1 and 3 loads: 2, 6, 18; 5, 1, 5; 27, 15, 3.
+    let sheet = ask_1_to_6(&with_loads(sheet_s(), &[2, 1, 3])).unwrap();
+    let costs = |set| (sheet.haul_cost(set), sheet.full_cost(set));
+    assert_eq!(costs(0b001), (2 + 5 + 27, 34 + 1));
+    assert_eq!(costs(0b010), (6 + 1 + 15, 22 + 4));
+    assert_eq!(costs(0b100), (18 + 5 + 3, 26 + 2));
+    assert_eq!(costs(0b011), (2 + 1 + 15, 18 + 5));
+    assert_eq!(costs(0b101), (2 + 5 + 3, 10 + 3));
+    assert_eq!(costs(0b110), (6 + 1 + 3, 10 + 6));
+    assert_eq!(costs(0b111), (2 + 1 + 3, 6 + 7));
+    // 0 is read as 1.
+    let (zeros, ones) = (ask_1_to_6(&sheet_s()).unwrap(), ask_1_to_6(&with_loads(sheet_s(), &[1; 3])).unwrap());
+    assert!((1..8).all(|set| zeros.full_cost(set) == ones.full_cost(set)));
+}
+
+#[test]
+fn moves_of_s_with_loads() {
+    // Farm 0 with 20 loads: {0} costs 35, {0, 1} 31 and {0, 2} 29, as all three; {0} hauls 34, {0, 1} 26 as {0, 2} does.
+    let heavy = with_loads(sheet_s(), &[20, 1, 0]);
+    assert_eq!(open_moves(&heavy), [Move::Add { yard: 2 }]);
+    let limited_moves = |k| search::limited_plan(&ask_1_to_6(&heavy).unwrap(), k).moves;
+    assert_eq!([limited_moves(1), limited_moves(2), limited_moves(3)], [[]; 3]);
+}
+
+/// What reading answers where byte 3 of the three hauls of farm 1 of S is this.
+fn read_with_bytes_3(bytes: [u8; 3]) -> Answer<Counts> {
+    let mut sheet = sheet_s();
+    for (record, byte) in sheet[48..72].chunks_mut(8).zip(bytes) {
+        record[3] = byte;
+    }
+    read(&sheet)
+}
+
+#[test]
+fn question_10_asks_bytes_up_to_20_and_the_same_within_a_farm() {
+    for byte in 0..=255 {
+        assert_eq!(read_with_bytes_3([byte; 3]).err(), (byte > 20).then_some(10), "byte {byte}");
+    }
+    for bytes in [[1, 0, 0], [0, 1, 0], [0, 0, 1], [0, 1, 1], [20, 20, 19], [5, 21, 5]] {
+        assert_eq!(read_with_bytes_3(bytes), Err(10), "bytes {bytes:?}");
+    }
+}
+
+#[test]
+fn question_10_stands_after_4_and_before_5() {
+    let differing = |mut sheet: Vec<u8>| {
+        sheet[27] = 1;
+        sheet
+    };
+    let mut out_of_place = differing(sheet_s());
+    out_of_place[90] = 1;
+    let mut too_high = differing(sheet_s());
+    too_high[7] = 255;
+    let rule_broken = differing(sheet([1, 4, 2], &[[1, 3, 10], [5, 1, 5], [9, 5, 1]]));
+    assert_eq!([out_of_place, too_high, rule_broken].map(|sheet| read(&sheet).err()), [Some(4), Some(10), Some(10)]);
+}
+
+#[test]
+fn question_2_tests_byte_3_of_yards_alone() {
+    let with_byte_3 = |at: usize| {
+        let mut sheet = sheet_s();
+        sheet[at] = 1;
+        read(&sheet).err()
+    };
+    assert_eq!([3, 11, 19, 27, 91].map(with_byte_3), [Some(2), Some(2), Some(2), Some(10), Some(10)]);
+}
+
+#[test]
+fn a_farm_record_repeats_the_byte_and_shows_the_haul_of_one_load() {
+    let mut area = [0; 64];
+    let written = price(&with_loads(sheet_s(), &[2, 0, 3]), 0b010, &mut area);
+    assert_eq!(written, Ok(Written { bytes: 48, moves: 0 }));
+    let farms = [[0x41, 1, 0, 2, 3, 0, 0, 0], [0x41, 1, 1, 0, 1, 0, 0, 0], [0x41, 1, 2, 3, 5, 0, 0, 0]];
+    assert_eq!(area[8..32], farms.concat());
+    // The total 4 + 2 × 3 + 1 + 3 × 5.
+    assert_eq!(area[32..40], [0x54, 1, 3, 0, 26, 0, 0, 0]);
 }
 
 /// The yard of each farm, from the records of kind 41 hex.
@@ -116,5 +205,9 @@ fn stretches() {
     assert_eq!(farm_hauls(&refused, 1), &refused[32..48]);
     refused[47] = 255;
     assert_eq!(read(&refused), Err(5));
+    assert_eq!(farm_hauls(&refused, 1), &refused[32..48]);
+    // Nor is question 10: the bytes come as they stand.
+    refused[35] = 77;
+    assert_eq!(read(&refused), Err(10));
     assert_eq!(farm_hauls(&refused, 1), &refused[32..48]);
 }

@@ -1,11 +1,16 @@
-//! Sheets with faults made on purpose, one function for each of questions 1 to 5. Each takes a sheet whose first "no" comes
-//! later than its own and makes its own question the first "no". So of faults put in from question 6 down to 1 the lowest
-//! is the first.
+//! Sheets with faults made on purpose, one function for each of questions 1 to 5 and 10. Each takes a sheet whose first "no"
+//! comes later than its own and makes its own question the first "no". So of faults put in from the last question to the
+//! first, the first in `ORDER` is the first "no".
 use super::good_form::{accepted, broken_by_one_cent};
+use super::loads::byte_above;
 use super::{below, Sample};
-use crate::format::{record, HAUL, HIGHEST_FEE, HIGHEST_HAUL, LONGEST_SHEET, MOST_FARMS, MOST_YARDS, RECORD, YARD};
+use crate::format::{
+    record, HAUL, HIGHEST_FEE, HIGHEST_HAUL, LONGEST_SHEET, MOST_FARMS, MOST_LOADS, MOST_YARDS, RECORD, YARD,
+};
 use crate::random::Random;
 
+/// The questions of reading as they are asked.
+const ORDER: [u8; 7] = [1, 2, 3, 4, 10, 5, 6];
 const MOST_RECORDS: usize = LONGEST_SHEET / RECORD;
 /// Kinds near the right ones, those of a plan, and others.
 const OTHER_KINDS: [u8; 12] = [0x00, 0x47, 0x49, 0x58, 0x5A, 0x4F, 0x41, 0x54, 0x4D, 0xC8, 0xD9, 0xFF];
@@ -16,31 +21,29 @@ struct Records {
     list: Vec<[u8; RECORD]>,
 }
 
-/// A sheet with one fault, of the given question of 1 to 6. Question 6 needs two yards and two farms at least.
-pub fn faulty(random: &mut Random, question: u8, yards: usize, farms: usize) -> Sample {
-    with_faults(random, 1 << question, yards, farms)
-}
+type Fault = fn(&mut Random, &mut Records);
 
 /// A sheet with faults of two questions or more.
 pub fn several_faults(random: &mut Random, yards: usize, farms: usize) -> Sample {
-    let highest = if yards >= 2 && farms >= 2 { 6 } else { 5 };
+    let possible = if yards >= 2 && farms >= 2 { &ORDER[..] } else { &ORDER[..ORDER.len() - 1] };
     loop {
-        let questions = random.between(0, (2 << highest) - 1) as u8 & !1;
-        if questions.count_ones() >= 2 {
-            return with_faults(random, questions, yards, farms);
+        let questions: Vec<u8> = possible.iter().copied().filter(|_| random.one_in(2)).collect();
+        if questions.len() >= 2 {
+            return faulty(random, &questions, yards, farms);
         }
     }
 }
 
-/// Bit i of `questions` asks for a fault of question i.
-fn with_faults(random: &mut Random, questions: u8, yards: usize, farms: usize) -> Sample {
-    let asked = |question: u8| questions >> question & 1 == 1;
+/// A sheet with a fault of each of these questions, in any order. Question 6 needs two yards and two farms at least.
+pub fn faulty(random: &mut Random, questions: &[u8], yards: usize, farms: usize) -> Sample {
+    let asked = |question: u8| questions.contains(&question);
     let a_below_b = random.one_in(2);
     let base =
         if asked(6) { broken_by_one_cent(random, yards, farms, a_below_b) } else { accepted(random, yards, farms) };
     let list = base.sheet.chunks(RECORD).map(|bytes| bytes.try_into().expect("a whole record")).collect();
     let mut records = Records { yards, list };
-    for (question, fault) in [(5, amount as fn(&mut Random, &mut Records)), (4, place), (3, yard), (2, kind)] {
+    let faults: [(u8, Fault); 5] = [(5, amount), (10, loads), (4, place), (3, yard), (2, kind)];
+    for (question, fault) in faults {
         if asked(question) {
             fault(random, &mut records);
         }
@@ -49,8 +52,9 @@ fn with_faults(random: &mut Random, questions: u8, yards: usize, farms: usize) -
     if asked(1) {
         length(random, &mut sheet);
     }
-    let name = format!("faults of questions {:?} in: {}", (1..=6).filter(|&q| asked(q)).collect::<Vec<_>>(), base.name);
-    Sample { name, sheet, reading: Some(Err(questions.trailing_zeros() as u8)) }
+    let in_order: Vec<u8> = ORDER.into_iter().filter(|&question| asked(question)).collect();
+    let name = format!("faults of questions {in_order:?} in: {}", base.name);
+    Sample { name, sheet, reading: Some(Err(in_order[0])) }
 }
 
 /// Question 1: a length that is no multiple of 8, or too short, or too long.
@@ -72,16 +76,17 @@ fn repeat_last_record(sheet: &mut Vec<u8>, length: usize) {
     }
 }
 
-/// Question 2: another kind, byte 3 not zero, or byte 2 of a yard not zero.
+/// Question 2: another kind, or byte 2 or byte 3 of a yard not zero.
 fn kind(random: &mut Random, records: &mut Records) {
     let not_zero = random.between(1, 255) as u8;
     let any = below(random, records.list.len());
     let yards: Vec<usize> = (0..records.list.len()).filter(|&at| records.list[at][0] == YARD).collect();
+    let other_kind = OTHER_KINDS[below(random, OTHER_KINDS.len())];
     match random.between(0, 3) {
-        0 => records.list[any][0] = OTHER_KINDS[below(random, OTHER_KINDS.len())],
+        0 => records.list.last_mut().expect("a record")[0] = other_kind,
         1 if !yards.is_empty() => records.list[yards[below(random, yards.len())]][2] = not_zero,
-        2 => records.list.last_mut().expect("a record")[3] = not_zero,
-        _ => records.list[any][3] = not_zero,
+        2 if !yards.is_empty() => records.list[yards[below(random, yards.len())]][3] = not_zero,
+        _ => records.list[any][0] = other_kind,
     }
 }
 
@@ -131,6 +136,29 @@ fn too_many_farms(random: &mut Random, yards: usize, list: &mut Vec<[u8; RECORD]
     let present = list.len() / yards - 1;
     for farm in present..farms {
         list.extend((0..yards).map(|yard| record(HAUL, yard, farm, 1)));
+    }
+}
+
+/// Question 10: in a farm's records a byte above 20, or one record's unlike the others', first, last or any, 0 beside 1 too.
+fn loads(random: &mut Random, records: &mut Records) {
+    let Records { yards, list } = records;
+    let farms: Vec<&mut [[u8; RECORD]]> = list.chunks_mut(*yards).skip(1).collect();
+    let any_farm = below(random, farms.len());
+    let farm = farms.into_iter().nth(any_farm).expect("a farm");
+    let any = below(random, farm.len());
+    let byte = farm[any][3];
+    let (above, other) = (byte_above(random), (byte + random.between(1, MOST_LOADS.into()) as u8) % (MOST_LOADS + 1));
+    match random.between(0, 6) {
+        0 if farm.len() >= 2 => farm[0][3] = other,
+        1 if farm.len() >= 2 => farm[farm.len() - 1][3] = other,
+        2 if farm.len() >= 2 => farm[any][3] = other,
+        3 if farm.len() >= 2 => {
+            let rest = random.between(0, 1) as u8;
+            farm.iter_mut().for_each(|haul| haul[3] = rest);
+            farm[any][3] = 1 - rest;
+        }
+        4 => farm[any][3] = above,
+        _ => farm.iter_mut().for_each(|haul| haul[3] = above),
     }
 }
 

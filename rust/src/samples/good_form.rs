@@ -1,4 +1,5 @@
 //! Sheets of good form: accepted ones, and ones whose amounts or hauls may be refused.
+use super::loads::with_any_loads;
 use super::tables::{between, from_lists, manhattan, plane, repair, small_amounts, within_threefold};
 use super::{below, Sample};
 use crate::format::{HIGHEST_FEE, HIGHEST_HAUL};
@@ -32,7 +33,7 @@ pub fn accepted(random: &mut Random, yards: usize, farms: usize) -> Sample {
             ("edges, repaired", repaired(table))
         }
     };
-    Sample::of_table(name, &table, None)
+    Sample::of_table(name, &with_any_loads(random, table), None)
 }
 
 /// An accepted sheet of many equal hauls and many equal fees: each is one of at most three amounts. Hauls within a
@@ -42,7 +43,8 @@ pub fn tied(random: &mut Random, yards: usize, farms: usize) -> Sample {
     let highest_fee = [3, low / 4, low, HIGHEST_FEE][below(random, 4)];
     let hauls = few_amounts(random, low, (3 * low).min(HIGHEST_HAUL));
     let fees = few_amounts(random, 0, highest_fee);
-    Sample::of_table("tied", &from_lists(random, yards, farms, &fees, &hauls), None)
+    let table = from_lists(random, yards, farms, &fees, &hauls);
+    Sample::of_table("tied", &with_any_loads(random, table), None)
 }
 
 /// One to three amounts.
@@ -58,7 +60,7 @@ pub fn unrepaired(random: &mut Random, yards: usize, farms: usize) -> Sample {
         2 => ("allowed edges", from_lists(random, yards, farms, &EDGE_FEES[..ALLOWED], &EDGE_HAULS[..ALLOWED])),
         _ => ("edges", from_lists(random, yards, farms, &EDGE_FEES, &EDGE_HAULS)),
     };
-    Sample { reading: None, ..Sample::of_table(name, &table, None) }
+    Sample { reading: None, ..Sample::of_table(name, &with_any_loads(random, table), None) }
 }
 
 /// At least two yards and two farms of which just one choice of yards a, b and farms p, q breaks question 6, by one cent.
@@ -74,7 +76,7 @@ pub fn kept_to_the_cent(random: &mut Random, yards: usize, farms: usize, a_below
 }
 
 /// Three hauls are `low`, haul(a, q) is their sum and `over` more. Every other haul is above `low`, so any other sum for
-/// haul(a, q) is at least one cent more, and at most twice `low`, so it keeps the rule itself.
+/// haul(a, q) is at least one cent more, and at most twice `low`, so it keeps the rule itself. Loads do not count in the rule.
 fn one_tight_choice(random: &mut Random, yards: usize, farms: usize, a_below_b: bool, over: u32) -> Table {
     let (lower, upper) = two_of(random, yards);
     let (a, b) = if a_below_b { (lower, upper) } else { (upper, lower) };
@@ -89,7 +91,7 @@ fn one_tight_choice(random: &mut Random, yards: usize, farms: usize, a_below_b: 
     let mut table = between(random, yards, farms, low + 1, 2 * low, HIGHEST_FEE);
     (table.hauls[p][a], table.hauls[p][b], table.hauls[q][b]) = (low, low, low);
     table.hauls[q][a] = 3 * low + over;
-    table
+    with_any_loads(random, table)
 }
 
 /// Two different numbers below `count`, in order.

@@ -1,6 +1,6 @@
-//! Seeded sheets of every kind: tables by the way their amounts are drawn (`tables`), sheets of good form (`good_form`), sheets
-//! with a fault made on purpose (`faults`) or by chance (`chance`), those that document 01 names (`named`), and the
-//! kept sheets whose open plan drops a yard (`kept`).
+//! Seeded sheets of every kind: tables by the way their amounts are drawn (`tables`), with loads (`loads`), sheets of good
+//! form (`good_form`), sheets with a fault made on purpose (`faults`) or by chance (`chance`), those that document 01 names
+//! (`named`), and the kept sheets whose open plan drops a yard (`kept`).
 use crate::random::Random;
 use crate::table::Table;
 use crate::{Answer, Counts};
@@ -9,6 +9,7 @@ mod chance;
 mod faults;
 mod good_form;
 mod kept;
+mod loads;
 mod named;
 mod tables;
 
@@ -16,6 +17,7 @@ pub use chance::{damaged, loose_records, random_bytes};
 pub use faults::{faulty, several_faults};
 pub use good_form::{accepted, broken_by_one_cent, kept_to_the_cent, tied, unrepaired};
 pub use kept::{kept, kept_moves};
+pub use loads::{any_loads, put_loads, with_any_loads};
 pub use named::named;
 pub use tables::{from_lists, manhattan, plane, repair, small_amounts, within_threefold};
 
@@ -32,7 +34,8 @@ impl Sample {
     /// A sheet of the right form, which reading accepts or refuses for the given question.
     fn of_table(name: &str, table: &Table, refused: Option<u8>) -> Sample {
         let counts = Counts { yards: table.fees.len(), farms: table.hauls.len() };
-        let name = format!("{name}, {} yards, {} farms", counts.yards, counts.farms);
+        let loads = table.loads.iter().max().copied().unwrap_or(0);
+        let name = format!("{name}, {} yards, {} farms, loads up to {loads}", counts.yards, counts.farms);
         Sample { name, sheet: table.sheet(), reading: Some(refused.map_or(Ok(counts), Err)) }
     }
 }

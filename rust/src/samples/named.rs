@@ -1,12 +1,15 @@
-//! The sheets that document 01 names in words, with what reading answers, and their neighbours.
+//! The sheets that document 01 and paper 2 of document 02 name in words, with what reading answers, and their neighbours.
 use super::Sample;
-use crate::format::{record, HAUL, HIGHEST_FEE, HIGHEST_HAUL, LONGEST_SHEET, MOST_FARMS, MOST_YARDS, RECORD, YARD};
+use crate::format::{
+    record, HAUL, HIGHEST_FEE, HIGHEST_HAUL, LONGEST_SHEET, MOST_FARMS, MOST_LOADS, MOST_YARDS, RECORD, YARD,
+};
 use crate::table::Table;
 
 pub fn named() -> Vec<Sample> {
     let mut list = lengths();
     list.extend(shapes());
     list.extend(amounts());
+    list.extend(loads());
     list
 }
 
@@ -42,7 +45,7 @@ fn shapes() -> Vec<Sample> {
 }
 
 fn amounts() -> Vec<Sample> {
-    let two_yards = |hauls: [[u32; 2]; 2]| Table { fees: vec![0, 0], hauls: hauls.map(Vec::from).to_vec() };
+    let two_yards = |hauls: [[u32; 2]; 2]| Table::new(vec![0, 0], hauls.map(Vec::from).to_vec());
     let one_yard = |fee, haul| Table::even(1, 1, fee, haul);
     let dearest = |farms| Table::even(MOST_YARDS, farms, HIGHEST_FEE, HIGHEST_HAUL);
     vec![
@@ -58,6 +61,25 @@ fn amounts() -> Vec<Sample> {
         Sample::of_table("one cent above the highest fee", &one_yard(HIGHEST_FEE + 1, 0), Some(5)),
         Sample::of_table("highest haul", &one_yard(0, HIGHEST_HAUL), None),
         Sample::of_table("one cent above the highest haul", &one_yard(0, HIGHEST_HAUL + 1), Some(5)),
+    ]
+}
+
+/// Of the dearest sheet all yards together cost 4,160,000,000.
+fn loads() -> Vec<Sample> {
+    let with_loads = |table: Table, loads: &[u8]| Table { loads: loads.to_vec(), ..table };
+    let dearest = |farms| Table::even(MOST_YARDS, farms, HIGHEST_FEE, HIGHEST_HAUL);
+    let one_farm = |loads| with_loads(even(2, 1), &[loads]);
+    let mut zero_beside_one = even(2, 1).sheet();
+    zero_beside_one[2 * RECORD + 3] = 1;
+    vec![
+        Sample::of_table("S", &with_loads(Table::s(), &[2, 1, 3]), None),
+        Sample::of_table("S", &with_loads(Table::s(), &[MOST_LOADS, 1, 0]), None),
+        Sample::of_table("dearest", &with_loads(dearest(2), &[MOST_LOADS; 2]), None),
+        Sample::of_table("dearest", &with_loads(dearest(MOST_FARMS), &[MOST_LOADS; MOST_FARMS]), None),
+        Sample::of_table("most loads", &one_farm(MOST_LOADS), None),
+        Sample::of_table("one load too many", &one_farm(MOST_LOADS + 1), Some(10)),
+        Sample::of_table("highest byte", &one_farm(u8::MAX), Some(10)),
+        refused("0 beside 1", zero_beside_one, 10),
     ]
 }
 

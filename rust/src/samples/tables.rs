@@ -15,7 +15,7 @@ pub fn plane(random: &mut Random, yards: usize, farms: usize, span: u32, highest
         let noise = random.between(0, (span / NOISE_PART).into());
         (distance(farm_points[farm], yard_points[yard]) + noise).min(HIGHEST_HAUL.into()) as u32
     });
-    let mut table = Table { fees: fees(random, yards, highest_fee.min(HIGHEST_FEE)), hauls };
+    let mut table = Table::new(fees(random, yards, highest_fee.min(HIGHEST_FEE)), hauls);
     repair(&mut table);
     table
 }
@@ -28,7 +28,7 @@ pub fn manhattan(random: &mut Random, yards: usize, farms: usize, side: u32, hig
         let ((x, y), (u, v)) = (farm_points[farm], yard_points[yard]);
         x.abs_diff(u) + y.abs_diff(v)
     });
-    Table { fees: fees(random, yards, highest_fee), hauls }
+    Table::new(fees(random, yards, highest_fee), hauls)
 }
 
 /// Every amount from 0 to `highest`: many equal costs, and question 6 often broken.
@@ -44,14 +44,14 @@ pub fn within_threefold(random: &mut Random, yards: usize, farms: usize, low: u3
 /// Hauls from `low` to `high`, fees up to `highest_fee`.
 pub fn between(random: &mut Random, yards: usize, farms: usize, low: u32, high: u32, highest_fee: u32) -> Table {
     let hauls = table_of(farms, yards, |_, _| random.between(low.into(), high.into()) as u32);
-    Table { fees: fees(random, yards, highest_fee), hauls }
+    Table::new(fees(random, yards, highest_fee), hauls)
 }
 
 /// Each fee one of `fees`, each haul one of `hauls`.
 pub fn from_lists(random: &mut Random, yards: usize, farms: usize, fees: &[u32], hauls: &[u32]) -> Table {
     let fees = (0..yards).map(|_| one_of(random, fees)).collect();
     let hauls = table_of(farms, yards, |_, _| one_of(random, hauls));
-    Table { fees, hauls }
+    Table::new(fees, hauls)
 }
 
 /// Lowers hauls until question 6 holds: a haul becomes the shortest way from its farm to its yard over other farms and yards.

@@ -1,8 +1,9 @@
-//! The questions put to a call, in the words of document 01.
+//! The questions put to a call by their numbers, in the words of document 01 and, for loads, of paper 2 of document 02.
 
-pub const QUESTIONS: [&str; 9] = [
+pub const QUESTIONS: [&str; 10] = [
     "Is the length a multiple of 8, from 16 to 33,024 bytes?",
-    "Is every kind 59 or 48 hex, every byte 3 zero, and byte 2 zero in every yard record?",
+    "Is every kind 59 or 48 hex, every byte 3 zero (since paper 2 in yard records alone), and byte 2 zero in every yard \
+     record?",
     "Do 1 to 32 yard records stand first, numbered from 0 in order, with none after them?",
     "Is the count of haul records m times n with n from 1 to 128, each with the yard and farm number of its place?",
     "Is every fee at most 50,000,000 and every haul at most 1,000,000?",
@@ -11,4 +12,5 @@ pub const QUESTIONS: [&str; 9] = [
     "Pricing only: does the set, a 32-bit number whose bit i marks yard i (bit 0 lowest), mark at least one yard and none \
      numbered m or above?",
     "Is the lent plan area at least 8 × (m + n + 2) bytes?",
+    "Loads (paper 2): is byte 3 of every haul record at most 20, and the same in all of a farm's records?",
 ];

@@ -1,11 +1,11 @@
-//! Why a call is refused: the first question of document 01 that is answered no, and where.
+//! Why a call is refused: the first question that is answered no, and where. Question 10 is asked after question 4.
 //!
-//! The number of a refusal is the library's. The fault is searched here, from the document alone, and must be of that number.
+//! The number of a refusal is the library's. The fault is searched here, from the documents alone, and must be of that number.
 use super::questions::QUESTIONS;
 use super::Names;
 use crate::format::{
-    amount, least_area, HAUL, HIGHEST_FEE, HIGHEST_HAUL, LONGEST_SHEET, MOST_FARMS, MOST_YARDS, RECORD, SHORTEST_SHEET,
-    YARD,
+    amount, least_area, HAUL, HIGHEST_FEE, HIGHEST_HAUL, LONGEST_SHEET, MOST_FARMS, MOST_LOADS, MOST_YARDS, RECORD,
+    SHORTEST_SHEET, YARD,
 };
 
 /// What a call was given beside the sheet.
@@ -47,6 +47,7 @@ pub fn first_fault(sheet: &[u8], given: &Given, names: &Names) -> Option<Fault> 
         let m = records.iter().take_while(|record| record[0] == YARD).count();
         let n = (records.len() - m) / m;
         places(&records, m)
+            .or_else(|| loads(&records, m, names))
             .or_else(|| amounts(&records))
             .or_else(|| four_points(&records, m, n, names))
             .or_else(|| beside(given, m, n))
@@ -66,9 +67,10 @@ fn at_record(question: u8, records: &[&[u8]], at: usize, words: String) -> Optio
 fn described(record: &[u8], at: usize) -> String {
     let hex: Vec<String> = record.iter().map(|byte| format!("{byte:02X}")).collect();
     let (yard, farm, amount) = (record[1], record[2], amount(record));
+    let loads = if record[3] == 0 { String::new() } else { format!("loads {}, ", record[3]) };
     let meaning = match record[0] {
         YARD => format!("a yard, number {yard}, fee {amount}"),
-        HAUL => format!("a haul, yard {yard}, farm {farm}, amount {amount}"),
+        HAUL => format!("a haul, yard {yard}, farm {farm}, {loads}amount {amount}"),
         _ => "neither a yard nor a haul".into(),
     };
     format!("Record {at} (counted from 0), at byte {}: {} hex: {meaning}.", at * RECORD, hex.join(" "))
@@ -90,7 +92,9 @@ fn kinds(records: &[&[u8]]) -> Option<Fault> {
         [kind, ..] if ![YARD, HAUL].contains(kind) => {
             Some(format!("Its kind is {kind:02X} hex. Asked: {YARD:02X} for a yard or {HAUL:02X} for a haul."))
         }
-        [_, _, _, third, ..] if *third != 0 => Some(format!("Its byte 3 is {third:02X} hex. Asked: zero.")),
+        [YARD, _, _, third, ..] if *third != 0 => {
+            Some(format!("It is a yard and its byte 3 is {third:02X} hex. Asked: zero."))
+        }
         [YARD, _, second, ..] if *second != 0 => {
             Some(format!("It is a yard and its byte 2 is {second:02X} hex. Asked: zero."))
         }
@@ -141,6 +145,22 @@ fn places(records: &[&[u8]], m: usize) -> Option<Fault> {
 /// The yard and the farm whose haul stands in a record after the m yards.
 fn place(at: usize, m: usize) -> (usize, usize) {
     ((at - m) % m, (at - m) / m)
+}
+
+/// Question 10.
+fn loads(records: &[&[u8]], m: usize, names: &Names) -> Option<Fault> {
+    let first = |at: usize| at - (at - m) % m;
+    let wrong = |at: usize| match (records[at][3], records[first(at)][3]) {
+        (byte, _) if byte > MOST_LOADS => Some(format!("is {byte}. Asked: 0 to {MOST_LOADS}.")),
+        (byte, other) if byte != other => {
+            let found = format!("is {byte}; that of the farm's first record, record {}, is {other}.", first(at));
+            Some(format!("{found} Asked: the same byte in all of a farm's records."))
+        }
+        _ => None,
+    };
+    let (at, words) = (m..records.len()).find_map(|at| Some((at, wrong(at)?)))?;
+    let farm = names.farm(place(at, m).1);
+    at_record(10, records, at, format!("Its byte 3, the loads of {farm}, {words}"))
 }
 
 /// Question 5.

@@ -1,16 +1,16 @@
 //! Cases of pricing and of the two plans. The area holds a pattern before each call, so that every byte written shows.
 use crate::sheets::{
-    changed_s, dropping, equal_hauls, even, haul, haul_place, lowest, of_length, paper_1, s, yard, yard_place, KIND_5A,
-    S_LENGTH,
+    changed_s, dropping, equal_hauls, even, haul, haul_place, loads_shown, lowest, of_length, paper_1, s, yard,
+    yard_place, KIND_5A, S_LENGTH,
 };
 use planner::calls::{Calls, PlanCall};
-use planner::format::{amount, record, HIGHEST_FEE, HIGHEST_HAUL, MOST_AREA, MOST_FARMS, MOST_YARDS, RECORD};
+use planner::format::{amount, record, FARM, HIGHEST_FEE, HIGHEST_HAUL, MOST_AREA, MOST_FARMS, MOST_YARDS, RECORD};
 use planner::{Answer, Written};
 
 const PATTERN: u8 = 0xa5;
 
 /// The area that question 9 asks for S.
-const S_AREA: usize = 64;
+pub const S_AREA: usize = 64;
 
 /// A plan of fewer bytes is shown whole, a longer one from its total on.
 const LONG_PLAN: usize = 100;
@@ -19,15 +19,15 @@ pub fn all(calls: &Calls) -> Vec<String> {
     [areas(calls), questions(calls), moves(calls), ties(calls), unread_sheets(calls), largest(calls)].concat()
 }
 
-fn price_case(calls: &Calls, name: &str, sheet: &[u8], set: u32, room: usize) -> String {
+pub fn price_case(calls: &Calls, name: &str, sheet: &[u8], set: u32, room: usize) -> String {
     plan_case(calls, name, sheet, PlanCall::Price { set }, room)
 }
 
-fn open_case(calls: &Calls, name: &str, sheet: &[u8], room: usize) -> String {
+pub fn open_case(calls: &Calls, name: &str, sheet: &[u8], room: usize) -> String {
     plan_case(calls, name, sheet, PlanCall::OpenPlan, room)
 }
 
-fn limited_case(calls: &Calls, name: &str, sheet: &[u8], k: usize, room: usize) -> String {
+pub fn limited_case(calls: &Calls, name: &str, sheet: &[u8], k: usize, room: usize) -> String {
     plan_case(calls, name, sheet, PlanCall::LimitedPlan { k }, room)
 }
 
@@ -54,10 +54,11 @@ fn records_shown(area: &[u8], bytes: usize) -> String {
     area.chunks_exact(RECORD).take(count).skip(first).map(record_shown).collect()
 }
 
-/// A record as its kind, which is a letter, its numbers, a mark where byte 3 is not zero, and its amount.
+/// A record as its kind, which is a letter, its numbers, its amount and the loads of a farm; a mark where byte 3 of another
+/// kind is not zero.
 fn record_shown(record: &[u8]) -> String {
-    let mark = if record[3] == 0 { "" } else { " byte 3!" };
-    format!("; {} {} {}{mark} {}", record[0] as char, record[1], record[2], amount(record))
+    let mark = if record[3] == 0 || record[0] == FARM { loads_shown(record) } else { " byte 3!".to_string() };
+    format!("; {} {} {} {}{mark}", record[0] as char, record[1], record[2], amount(record))
 }
 
 /// Does the area hold the pattern from an offset on?
@@ -133,7 +134,7 @@ fn ties(calls: &Calls) -> Vec<String> {
 }
 
 /// A sheet that reading turns down, with everything else wrong too.
-fn unread(calls: &Calls, name: &str, sheet: &[u8]) -> Vec<String> {
+pub fn unread(calls: &Calls, name: &str, sheet: &[u8]) -> Vec<String> {
     let room = 2 * RECORD;
     vec![
         open_case(calls, &format!("{name}, open plan"), sheet, room),

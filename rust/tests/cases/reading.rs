@@ -1,5 +1,7 @@
 //! Cases of reading, and of a farm's stretch.
-use crate::sheets::{changed_s, even, haul, haul_place, of_length, s, yard, yard_place, Record, KIND_5A, S_LENGTH};
+use crate::sheets::{
+    changed_s, even, haul, haul_place, loads_shown, of_length, s, yard, yard_place, Record, KIND_5A, S_LENGTH,
+};
 use crate::FarmHauls;
 use planner::calls::Calls;
 use planner::format::{
@@ -10,7 +12,7 @@ pub fn all(calls: &Calls) -> Vec<String> {
     [lengths(calls), counts(calls), amounts(calls), single_faults(calls), several_faults(calls)].concat()
 }
 
-fn read_case(calls: &Calls, name: &str, sheet: &[u8]) -> String {
+pub fn read_case(calls: &Calls, name: &str, sheet: &[u8]) -> String {
     match (calls.read)(sheet) {
         Ok(counts) => format!("{name}: accepted, yards {}, farms {}", counts.yards, counts.farms),
         Err(number) => format!("{name}: refused {number}"),
@@ -96,10 +98,11 @@ fn several_faults(calls: &Calls) -> Vec<String> {
     ]
 }
 
-/// The length of a farm's stretch and the amounts of its records.
-fn farm_case(farm_hauls: FarmHauls, name: &str, sheet: &[u8], farm: usize) -> String {
+/// The length of a farm's stretch, and the amounts of its records with their loads.
+pub fn farm_case(farm_hauls: FarmHauls, name: &str, sheet: &[u8], farm: usize) -> String {
     let hauls = farm_hauls(sheet, farm);
-    let amounts: String = hauls.chunks_exact(RECORD).map(|record| format!(" {}", amount(record))).collect();
+    let shown = |record: &[u8]| format!(" {}{}", amount(record), loads_shown(record));
+    let amounts: String = hauls.chunks_exact(RECORD).map(shown).collect();
     format!("{name}: bytes {}{amounts}", hauls.len())
 }
 

@@ -24,6 +24,19 @@ pub fn s() -> Vec<u8> {
     Table::s().sheet()
 }
 
+/// S with these loads of its farms.
+pub fn s_with_loads(loads: [u8; S_FARMS]) -> Vec<u8> {
+    Table { loads: loads.to_vec(), ..Table::s() }.sheet()
+}
+
+/// Byte 3 of a haul or of a farm in a plan, where it is not zero.
+pub fn loads_shown(record: &[u8]) -> String {
+    match record[3] {
+        0 => String::new(),
+        loads => format!(" loads {loads}"),
+    }
+}
+
 /// The offset of a yard's record in S.
 pub fn yard_place(yard: usize) -> usize {
     RECORD * yard
@@ -57,24 +70,28 @@ pub fn even(yards: usize, farms: usize, fee: u32, haul: u32) -> Vec<u8> {
 /// Four yards and four farms. The open search starts at yard 3, adds 0 and then 1, swaps 3 for 2, and drops 0.
 pub fn dropping() -> Vec<u8> {
     let hauls = vec![vec![3, 14, 4, 8], vec![9, 10, 2, 4], vec![9, 4, 8, 2], vec![12, 1, 11, 5]];
-    Table { fees: vec![2, 3, 3, 5], hauls }.sheet()
+    Table::new(vec![2, 3, 3, 5], hauls).sheet()
 }
 
 /// Four yards and four farms. The lowest move adds yard 0 to 3, which ends the search; by the first lowering moves it
 /// would end in yards 1, 2 and 3.
 pub fn lowest() -> Vec<u8> {
     let hauls = vec![vec![2, 5, 2, 4], vec![3, 2, 3, 1], vec![2, 5, 2, 4], vec![2, 1, 4, 4]];
-    Table { fees: vec![3, 1, 2, 0], hauls }.sheet()
+    Table::new(vec![3, 1, 2, 0], hauls).sheet()
 }
 
 /// The two yards and one farm of paper 1 of document 02.
 pub fn paper_1() -> Vec<u8> {
-    Table { fees: vec![4, 2], hauls: vec![vec![3, 3]] }.sheet()
+    paper_1_table().sheet()
+}
+
+pub fn paper_1_table() -> Table {
+    Table::new(vec![4, 2], vec![vec![3, 3]])
 }
 
 /// Three yards and five farms. Farm 0 has equal hauls to all, farm 4 to yards 0 and 1, and each other farm to the two yards
 /// farther off; yards 1 and 2 have equal fees.
 pub fn equal_hauls() -> Vec<u8> {
     let hauls = vec![vec![3, 3, 3], vec![1, 7, 7], vec![7, 1, 7], vec![7, 7, 1], vec![3, 3, 5]];
-    Table { fees: vec![4, 2, 2], hauls }.sheet()
+    Table::new(vec![4, 2, 2], hauls).sheet()
 }

@@ -1,9 +1,11 @@
 //! Every call on one sheet: the proved library against the other implementations, area and all, byte for byte. `fast` is among
 //! them so that the benchmark's times are those of the same answers.
+mod loads;
 mod tally;
 
+use loads::{opened, without_loads};
 use planner::calls::{Calls, PlanCall, ALL};
-use planner::format::{least_area, MOST_AREA, MOST_FARMS, MOST_YARDS, OPEN, RECORD};
+use planner::format::{least_area, MOST_AREA, MOST_FARMS, MOST_YARDS, RECORD};
 use planner::random::Random;
 use planner::samples::Sample;
 use planner::{library, literal, Answer, Counts};
@@ -24,6 +26,9 @@ struct Comparison<'a> {
     sample: &'a Sample,
     /// The sheet before any call.
     before: Vec<u8>,
+    without_loads: Vec<u8>,
+    /// Where question 10 refuses the sheet, the number that it gives without loads.
+    beside_10: Option<u8>,
     seed: u64,
     random: Random,
     tally: &'a mut Tally,
@@ -39,7 +44,9 @@ pub fn every_call(sample: &Sample, seed: u64, tally: &mut Tally) {
 impl<'a> Comparison<'a> {
     fn new(all: &'a [Calls; 4], sample: &'a Sample, seed: u64, tally: &'a mut Tally) -> Comparison<'a> {
         let [library, others @ ..] = all;
-        Comparison { library, others, sample, before: sample.sheet.clone(), seed, random: Random::new(!seed), tally }
+        let (before, without_loads) = (sample.sheet.clone(), without_loads(&sample.sheet));
+        let random = Random::new(!seed);
+        Comparison { library, others, sample, before, without_loads, beside_10: None, seed, random, tally }
     }
 
     fn reading_and_plans(&mut self) {
@@ -60,8 +67,18 @@ impl<'a> Comparison<'a> {
         if let Some(made) = self.sample.reading {
             assert!(answer == made, "read: library {answer:?}, made to give {made:?}; {}", self.sheet());
         }
-        self.tally.answer(Name::Read, answer.err());
+        if answer == Err(10) {
+            self.beside_10 = literal::read(&self.without_loads).err();
+        }
+        self.count(Name::Read, answer.err());
         answer
+    }
+
+    fn count(&mut self, name: Name, refused: Option<u8>) {
+        self.tally.answer(name, refused);
+        if refused == Some(10) {
+            self.tally.loads.refused(name, self.beside_10);
+        }
     }
 
     /// The stretches of farms below, at and above n, and their bytes to past the end.
@@ -158,17 +175,16 @@ impl<'a> Comparison<'a> {
         expected[plan.clone()].copy_from_slice(&area[plan.clone()]);
         let difference = first_difference(&area, &expected);
         assert!(difference.is_none(), "{}; not as before the call: {difference:?}; {}", ours(), self.sheet());
-        self.tally.answer(Name::of(call), answer.err());
+        self.count(Name::of(call), answer.err());
         self.tally.moves += answer.map_or(0, |written| written.moves.into());
+        self.tally.loads.plan(call, &area[plan.clone()], &self.without_loads);
         self.choices(Name::of(call), &area[plan]);
         written
     }
 
     /// Counts the farms of a plan by what their yard was chosen by, as literal sees it.
     fn choices(&mut self, name: Name, plan: &[u8]) {
-        let opened = plan.chunks_exact(RECORD).filter(|record| record[0] == OPEN);
-        let set = opened.fold(0, |set, record| set | 1 << record[1]);
-        for by in literal::chosen_by(&self.sample.sheet, set) {
+        for by in literal::chosen_by(&self.sample.sheet, opened(plan)) {
             self.tally.choice(name, by);
         }
     }

@@ -1,4 +1,5 @@
 //! How many calls were compared, by call and by answer, and how many farms of their plans, by what their yard was chosen by.
+use super::loads::Loads;
 use planner::calls::PlanCall;
 use planner::literal::ChosenBy;
 
@@ -20,14 +21,15 @@ impl Name {
     }
 }
 
-const NAMES: [Name; 4] = [Name::Read, Name::Price, Name::OpenPlan, Name::LimitedPlan];
+pub const NAMES: [Name; 4] = [Name::Read, Name::Price, Name::OpenPlan, Name::LimitedPlan];
 
 #[derive(Default)]
 pub struct Tally {
     /// For each call, how often it was accepted (place 0) and refused with each number.
-    answers: [[u64; 10]; 4],
+    answers: [[u64; 11]; 4],
     /// For each call, the farms of its plans by `ChosenBy`.
     chosen: [[u64; 3]; 4],
+    pub loads: Loads,
     /// Of all accepted calls.
     pub moves: u64,
     pub whole_stretches: u64,
@@ -78,6 +80,7 @@ impl Tally {
         for (name, chosen) in self.choices() {
             println!("{:>12} {chosen:?}", format!("{name:?}"));
         }
+        self.loads.print();
         let Tally { moves, whole_stretches, empty_stretches, bytes, .. } = self;
         println!("{moves} moves");
         println!("{whole_stretches} whole stretches, {empty_stretches} empty ones, {bytes} bytes of them");

@@ -1,14 +1,14 @@
 //! Demand 3 on small sheets, against every rival: our list is the yards in the plan's records of kind 4F, and both buyers are
-//! priced by the sheet's own prices, never by the printed total. Also that no move is left that lowers the cost of our list.
+//! priced by the sheet's own prices and with the same loads, never by the printed total. Also that no move is left that lowers the cost of our list.
 mod prices;
 mod worst;
 
-use planner::format::{MOST_AREA, OPEN, RECORD};
+use planner::format::{MOST_AREA, MOST_LOADS, OPEN, RECORD};
 use planner::random::Random;
-use planner::samples::{accepted, kept, repair, small_amounts, Sample};
+use planner::samples::{accepted, any_loads, kept, put_loads, repair, small_amounts, Sample};
 use planner::table::Table;
-use planner::{library, Answer, Written};
-use prices::{adds_and_drops, swaps, Prices};
+use planner::{library, Answer, Counts, Written};
+use prices::{adds_and_drops, loads, swaps, Prices};
 use worst::{Seen, Worst};
 
 /// Random sheets of every kind.
@@ -18,6 +18,8 @@ const UP_TO_FARMS: u64 = 12;
 /// Kept sheets with more yards are left out; so many remain.
 const MOST_YARDS_KEPT: usize = 12;
 const SMALL_KEPT: u64 = 11;
+/// Each of them also with loads, drawn so often.
+const DRAWN_LOADS: u64 = 8;
 /// Sheets that are changed step by step towards a worse ratio, and the steps.
 const WORSENED: u64 = 10;
 const STEPS: u64 = 10_000;
@@ -44,13 +46,24 @@ fn no_rival_is_far_below_our_lists_on_random_sheets() {
 fn no_rival_is_far_below_our_lists_on_kept_sheets() {
     let mut seen = Seen::default();
     for Sample { name, sheet, .. } in kept().expect("sheets/drops") {
-        let yards = library::read(&sheet).expect("an accepted sheet").yards;
+        let Counts { yards, farms } = library::read(&sheet).expect("an accepted sheet");
         if yards <= MOST_YARDS_KEPT {
             seen.take_in(compared(&sheet, yards, &name));
+            seen.take_in(compared_with_loads(sheet, yards, farms, &name));
         }
     }
     seen.print();
-    seen.enough(SMALL_KEPT);
+    seen.enough(SMALL_KEPT * (1 + DRAWN_LOADS));
+}
+
+fn compared_with_loads(mut sheet: Vec<u8>, yards: usize, farms: usize, name: &str) -> Seen {
+    let mut seen = Seen::default();
+    for seed in 0..DRAWN_LOADS {
+        let loads = any_loads(&mut Random::new(seed), farms);
+        put_loads(&mut sheet, yards, &loads);
+        seen.take_in(compared(&sheet, yards, &format!("{name}, loads {loads:?}")));
+    }
+    seen
 }
 
 /// The same on sheets changed towards a high open total or high limited hauls, since random sheets stay far below the bounds.
@@ -65,7 +78,7 @@ fn no_rival_is_far_below_our_lists_on_worsened_sheets() {
     seen.enough(LEAST_WORSENED);
 }
 
-/// Changes one amount at a time and keeps the change where the ratio is not lower. Every sheet on the way is compared.
+/// Changes one amount at a time, by every second seed one farm's loads too, and keeps the change where the ratio is not lower. Every sheet on the way is compared.
 fn worsen(seed: u64, seen: &mut Seen, ratio: fn(&Seen) -> &Worst) {
     let mut random = Random::new(seed);
     let (yards, farms) = (random.between(4, 7) as usize, random.between(3, 8) as usize);
@@ -73,7 +86,7 @@ fn worsen(seed: u64, seen: &mut Seen, ratio: fn(&Seen) -> &Worst) {
     repair(&mut table);
     let mut present = compared(&table.sheet(), yards, &format!("seed {seed}, {table:?}"));
     for _ in 0..STEPS {
-        let changed = changed(&mut random, &table);
+        let changed = changed(&mut random, &table, seed % 2 == 1);
         if library::read(&changed.sheet()).is_err() {
             continue;
         }
@@ -85,15 +98,15 @@ fn worsen(seed: u64, seen: &mut Seen, ratio: fn(&Seen) -> &Worst) {
     }
 }
 
-fn changed(random: &mut Random, table: &Table) -> Table {
+fn changed(random: &mut Random, table: &Table, loads_too: bool) -> Table {
     let mut table = table.clone();
     let yard = random.between(0, table.fees.len() as u64 - 1) as usize;
     let farm = random.between(0, table.hauls.len() as u64 - 1) as usize;
     let amount = random.between(0, HIGHEST_AMOUNT) as u32;
-    if random.one_in(4) {
-        table.fees[yard] = amount;
-    } else {
-        table.hauls[farm][yard] = amount;
+    match random.between(0, 7) {
+        0 | 1 => table.fees[yard] = amount,
+        2 if loads_too => table.loads[farm] = random.between(0, MOST_LOADS.into()) as u8,
+        _ => table.hauls[farm][yard] = amount,
     }
     table
 }
@@ -101,7 +114,8 @@ fn changed(random: &mut Random, table: &Table) -> Table {
 /// Both lists, for every k, against every rival.
 fn compared(sheet: &[u8], yards: usize, name: &str) -> Seen {
     let prices = Prices::of(sheet, yards);
-    let mut seen = Seen { sheets: 1, ..Seen::default() };
+    let with_loads = loads(sheet, yards).iter().any(|&loads| loads > 1);
+    let mut seen = Seen { sheets: 1, with_loads: with_loads.into(), ..Seen::default() };
     open_list(&prices, list(|area| library::open_plan(sheet, area)), name, &mut seen);
     assert_eq!(seen.rivals_of_open, (1 << yards) - 1, "{name}: every set but the empty one is a rival");
     for k in 1..=yards {

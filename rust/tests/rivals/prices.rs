@@ -1,4 +1,4 @@
-//! What each set of a sheet's yards costs, and the sets next to a set.
+//! What each set of a sheet's yards costs, for either buyer with the same loads, and the sets next to a set.
 use planner::format::{amount, RECORD};
 
 /// A set is a place in the lists: its bit i marks yard i. Place 0, the empty set, is not used.
@@ -9,7 +9,7 @@ pub struct Prices {
 }
 
 impl Prices {
-    /// The prices of an accepted sheet, read off its amounts.
+    /// The prices of an accepted sheet, read off its amounts and off byte 3 of its hauls, where 0 is read as 1.
     pub fn of(sheet: &[u8], yards: usize) -> Prices {
         let amounts: Vec<u64> = sheet.chunks(RECORD).map(|record| amount(record).into()).collect();
         let (fees, hauls) = amounts.split_at(yards);
@@ -17,7 +17,11 @@ impl Prices {
             (0..yards).filter(|yard| set >> yard & 1 == 1).map(|yard| list[yard]).collect()
         };
         let fees_of = |set| marked(set, fees).iter().sum();
-        let hauls_of = |set| hauls.chunks(yards).filter_map(|farm| marked(set, farm).into_iter().min()).sum();
+        let loads = loads(sheet, yards);
+        let hauls_of = |set| {
+            let nearest = hauls.chunks(yards).filter_map(|farm| marked(set, farm).into_iter().min());
+            nearest.zip(&loads).map(|(haul, loads)| haul * loads).sum()
+        };
         let sets = 0..1usize << yards;
         Prices { yards, fees: sets.clone().map(fees_of).collect(), hauls: sets.map(hauls_of).collect() }
     }
@@ -30,6 +34,11 @@ impl Prices {
     pub fn rivals(&self) -> std::ops::Range<usize> {
         1..self.hauls.len()
     }
+}
+
+/// The loads of each farm, from its record for yard 0.
+pub fn loads(sheet: &[u8], yards: usize) -> Vec<u64> {
+    sheet.chunks(RECORD).step_by(yards).skip(1).map(|record| u64::from(record[3]).max(1)).collect()
 }
 
 /// The sets that differ from `set` in one yard, none of them empty.

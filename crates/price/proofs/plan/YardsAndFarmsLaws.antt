@@ -16,7 +16,7 @@ use Rattle.sets.specs.Members.{risingBelow}
 use Rattle.sets.proofs.MemberLaws.{Next, passed, passed-none, passed-more, listed-next, listed-last}
 use Rattle.record.specs.Records.{recordOf, splice}
 use Rattle.questions.specs.Bounds.{mostYards}
-use Rattle.questions.specs.Sheet.{fee, instanceBy}
+use Rattle.questions.specs.Sheet.{fee, farmByte, loadsOf, instanceBy}
 use Rattle.record.proofs.SpliceLaws.{length-bytes, splice-turn}
 use Rattle.price.specs.Plan.{openRecord, farmRecord, openKind}
 use Rattle.price.proofs.SheetCostLaws.{summed-same, fees-sum, hauls-sum}
@@ -106,34 +106,38 @@ module _ (s : List ℕ) (m n set : ℕ) where
 
   -- ---- the farms
 
+  -- what a farm's loads cost
+  abbrev farmCost : ℕ → ℕ
+  farmCost j = loadsOf (farmByte s m j) * nearest (instanceBy s m n) (member set) j
+
   -- the area and the hauls after so many farms, whose records begin at an offset
   pub record ServedSoFar (area₀ : List ℕ) (from : ℕ) (area : List ℕ) (total farm : ℕ) : Type 0 where
-    pub written : PutSoFar (farmRecord (instanceBy s m n) set) area₀ from area (from + 8 * farm) farm
-    pub summed : Summed (nearest (instanceBy s m n) (member set)) total farm
+    pub written : PutSoFar (farmRecord (instanceBy s m n) (farmByte s m) set) area₀ from area (from + 8 * farm) farm
+    pub summed : Summed farmCost total farm
 
   pub served-none : (area₀ : List ℕ) (from : ℕ) → ServedSoFar area₀ from area₀ 0 0
   served-none area₀ from =
       let start : from + 8 * 0 ≡ from = omega arith in
       record {
-        written = rw start (filled-none (farmRecord (instanceBy s m n) set) area₀ from);
-        summed = summed-none (nearest (instanceBy s m n) (member set));
+        written = rw start (filled-none (farmRecord (instanceBy s m n) (farmByte s m) set) area₀ from);
+        summed = summed-none farmCost;
       }
 
   pub served-more : (area₀ area area′ : List ℕ) (from total farm x : ℕ) → from + 8 * farm + 8 ≤ length area₀
-      → ServedSoFar area₀ from area total farm → x ≡ nearest (instanceBy s m n) (member set) farm → x ≤ mostTerm
-      → area′ ≡ splice area (from + 8 * farm) (farmRecord (instanceBy s m n) set farm) → ServedSoFar area₀ from area′ (total + x) (farm + 1)
+      → ServedSoFar area₀ from area total farm → x ≡ loadsOf (farmByte s m farm) * nearest (instanceBy s m n) (member set) farm → x ≤ mostTerm
+      → area′ ≡ splice area (from + 8 * farm) (farmRecord (instanceBy s m n) (farmByte s m) set farm) → ServedSoFar area₀ from area′ (total + x) (farm + 1)
   served-more area₀ area area′ from total farm x room h ex small put =
       let I = instanceBy s m n in
       record {
         written =
-            filled-more (farmRecord I set) area₀ from area area′ (from + 8 * farm) (from + 8 * (farm + 1)) farm (h .written)
-            (farm-short I set farm) room (omega (arith, farm-record-length I set farm)) put;
-        summed = summed-more (nearest I (member set)) total farm x (h .summed) ex small;
+            filled-more (farmRecord I (farmByte s m) set) area₀ from area area′ (from + 8 * farm) (from + 8 * (farm + 1)) farm (h .written)
+            (farm-short I set (farmByte s m) farm) room (omega (arith, farm-record-length I set (farmByte s m) farm)) put;
+        summed = summed-more farmCost total farm x (h .summed) ex small;
       }
 
   pub served-all : (area₀ area : List ℕ) (from total farm : ℕ) → farm ≡ n → ServedSoFar area₀ from area total farm
       → (total ≡ serviceCost (instanceBy s m n) (member set))
-      × ((total ≤ n * mostTerm) × (area ≡ splice area₀ from (join n (farmRecord (instanceBy s m n) set))))
+      × ((total ≤ n * mostTerm) × (area ≡ splice area₀ from (join n (farmRecord (instanceBy s m n) (farmByte s m) set))))
   served-all area₀ area from total farm done h =
       let g = rw done at h in
       (g .summed .exact ∙ hauls-sum s m n (member set), (g .summed .small, g .written .parts))
@@ -147,10 +151,10 @@ module _ (s : List ℕ) (m n set : ℕ) where
 
   pub body-is : (area₀ area₁ area₂ : List ℕ) (opened : ℕ) → opened ≡ count m (member set) → 8 * m ≤ length area₀
       → area₁ ≡ splice area₀ 0 (join m (openRecord (instanceBy s m n) set))
-      → area₂ ≡ splice area₁ (8 * opened) (join n (farmRecord (instanceBy s m n) set))
-      → area₂ ≡ splice area₀ 0 (join m (openRecord (instanceBy s m n) set) ++ join n (farmRecord (instanceBy s m n) set))
+      → area₂ ≡ splice area₁ (8 * opened) (join n (farmRecord (instanceBy s m n) (farmByte s m) set))
+      → area₂ ≡ splice area₀ 0 (join m (openRecord (instanceBy s m n) set) ++ join n (farmRecord (instanceBy s m n) (farmByte s m) set))
   body-is area₀ area₁ area₂ opened e room put₁ put₂ =
       let opens = join m (openRecord (instanceBy s m n) set) in
       let long = opens-length (instanceBy s m n) set m in
-      put₂ ∙ splice-turn area₀ area₁ 0 (8 * opened) opens (join n (farmRecord (instanceBy s m n) set)) put₁ (omega arith)
+      put₂ ∙ splice-turn area₀ area₁ 0 (8 * opened) opens (join n (farmRecord (instanceBy s m n) (farmByte s m) set)) put₁ (omega arith)
       (omega (arith, count-le m (member set)))

@@ -36,7 +36,7 @@ returns-2 c = let asked = c .before .before in
     let e = sym (arm .before .before .read .ensures) ∙ ap readingAnswer (arm .yards .given .1) in
     let f = accepts _ _ _ e .has in
     pricing-promises _ _ _ (arm .before .before .before .before .before .args .area .now) _ (refuses _ _ 9 (no-room _ _ _ _ _ e (said-yes (asked .before .set-good .ensures) (c .before .if1 .left))
-    (said-no (asked .plan-fits .ensures ∙ fits-within _ _ _ (f .few-yards) (f .few-farms)) (c .if2 .taken))))
+    (said-no (asked .plan-fits .ensures ∙ fits-within _ _ _ (f .some-yards) (f .few-yards) (f .few-farms)) (c .if2 .taken))))
 
 put-yards-and-farms-requires : tie.Need-put-yards-and-farms-requires
 put-yards-and-farms-requires c κs = let asked = c .before .before .before in
@@ -75,7 +75,7 @@ returns-3 c = let put = c .before .before in
     let written = writes-all _ _ _ _ _ _ _ _ _ _ _ fits (f .room) (totals .put-yards-and-farms .ensures .0) (totals .put-yards-and-farms .ensures .1 .1)
     (put .put-total-and-moves .ensures .0) (put .put-total-and-moves .ensures .1) in
     pricing-promises _ _ _ (arm .before .before .before .before .before .args .area .now) _ (prices _ _ _ _ _ e (totals .put-yards-and-farms .ensures .1 .0) _ _ _ (said-yes (asked .before .set-good .ensures) (passed .before .if1 .left))
-    (sym (fits-within _ _ _ (f .few-yards) (f .few-farms)) ∙ fits) (written .0) (written .1))
+    (sym (fits-within _ _ _ (f .some-yards) (f .few-yards) (f .few-farms)) ∙ fits) (written .0) (written .1))
 
 returns-4 : tie.Need-returns-4
 returns-4 c = let arm = c .before in

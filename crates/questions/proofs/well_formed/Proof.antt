@@ -14,7 +14,7 @@ returns-2 c = rw (c .before .before .match .keys1, ne-eqb _ _ (c .if1 .left))
 
 returns-3 : tie.Need-returns-3
 unfolding wellFormed
-returns-3 c = rw (c .before .match .keys2)
+returns-3 c = rw (c .match .keys2)
 
 returns-4 : tie.Need-returns-4
 unfolding wellFormed

@@ -26,7 +26,7 @@ use Rattle.engine.specs.declared.Found.the-variants as Found
 use Rattle.engine.specs.declared.Neighbourhood.{Neighbourhood}
 use Rattle.engine.specs.declared.Neighbourhood.the-variants.{AddDropSwap, Swap}
 use Rattle.engine.proofs.FoundLaws.{unbroken}
-use Rattle.search.specs.SheetTables.{Holds, OpeningBy}
+use Rattle.search.specs.SheetTables.{Holds, loadedHaul, OpeningBy}
 use Rattle.search.specs.SearchEnds.{settledAt, openEnd, limitedEnd}
 use Rattle.search.specs.PlanKinds.{startBy, endBy}
 use Rattle.search.specs.declared.planning.Settled.{Settled}
@@ -82,7 +82,7 @@ module _ (moves : Neighbourhood) (m n k : ℕ) (opening service : List ℕ) (goo
 
 -- ---- on tables filled from a sheet, the search is that of the sheet's instance
 
-module _ (s : List ℕ) (m n k : ℕ) (opening service : List ℕ) (hauls : Holds s m (n * m) service) (r : Settled) where
+module _ (s : List ℕ) (m n k : ℕ) (opening service : List ℕ) (hauls : Holds (loadedHaul s m) (n * m) service) (r : Settled) where
   start-is : ((set : ℕ) → tableCost m n opening service set ≡ openCost (instanceBy s m n) set)
       → openStart (tabled m n opening service) ≡ openStart (instanceBy s m n)
   unfolding tabled instanceBy tableCost

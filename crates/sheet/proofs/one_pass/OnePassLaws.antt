@@ -1,9 +1,9 @@
--- The one pass: a sheet on which every record is the one of its place passes questions 2 to 5.
+-- The one pass: a sheet on which every record is the one of its place passes questions 2 to 4, 10 and 5.
 use Prim.Native.Nat.{ℕ, zero, _+_, _-_, _*_, _/_, _%_, _≤_, _<_}
 use native.Mathlib.Nat.{mul-le-mul-right, not-suc-le-zero, zero-add, mod-lt, mod-add-div', div-lt-iff-lt-mul}
 use native.Mathlib.Decide.{decLt}
 use native.Mathlib.Omega.{arith}
-use mathlib.Core.Path.{_≡_, refl, sym, ap, subst, _∙_}
+use mathlib.Core.Path.{_≡_, refl, sym, ap, ap₂, subst, _∙_}
 use mathlib.Core.Bool.{Bool, true, false, cond, _&&_, and-false}
 use mathlib.Core.List.{List}
 use borrow.Author.Tests.{eq-eqb, le-leb, lt-leb, eqb-true, leb-true}
@@ -14,85 +14,115 @@ use Rattle.model.proofs.LoopLaws.{all-at, all-from, all-stops, leading-reaches}
 use Rattle.four_point.specs.Table.{costLimit}
 use Rattle.record.specs.declared.Record.{Record}
 use Rattle.record.specs.Records.{recordAt}
-use Rattle.questions.specs.Bounds.{yardKind, haulKind, mostYards, mostFarms, mostFee, mostHaul}
-use Rattle.questions.specs.Sheet.{records, isYard, yards, hauls, farms, place, haul}
+use Rattle.questions.specs.Bounds.{yardKind, haulKind, mostYards, mostFarms, mostLoads, mostFee, mostHaul}
+use Rattle.questions.specs.Sheet.{records, isYard, yards, hauls, farms, place, haul, loadsByte, farmByte}
 use Rattle.questions.specs.Shape.{Shape}
-use Rattle.questions.specs.Questions.{question1, question2, question3, question4, question5, wellFormed, wellFormedAt, numbered, noYardAfter, haulInPlace, farmInPlace, amountWithin}
+use Rattle.questions.specs.Questions.{question1, question2, question3, question4, question10, question5, wellFormed, wellFormedAt, numbered, noYardAfter, haulInPlace, farmInPlace, haulLoaded, farmLoaded, amountWithin}
 use Rattle.sheet.specs.OnePass.{recordIs, goodYard, goodYards, goodHaul, goodFarm, Passes}
-use Rattle.questions.proofs.ReadingLaws.{Formed, form-yes}
+use Rattle.questions.proofs.ReadingLaws.{Formed, form-yes, loads-yes}
 use Rattle.questions.proofs.QuestionLaws.{well-numbered, even, fees-good}
 use Rattle.questions.proofs.FormLaws.{hauls-are, farms-are-hauls}
 
 -- ---- one record
 
 -- what the test of a record says of it
-record Said (r : Record) (kind yard farm most : ℕ) : Type 0 where
+record Said (r : Record) (kind yard farm byte3 most : ℕ) : Type 0 where
   is-well-formed : wellFormed r ≡ true
   kind-is : r .kind ≡ kind
   yard-is : r .yard ≡ yard
   farm-is : r .farm ≡ farm
+  byte3-is : r .byte3 ≡ byte3
   within : r .amount ≤ most
 
-module _ (r : Record) (kind yard farm most : ℕ) where
-  says : recordIs r kind yard farm most ≡ true → Said r kind yard farm most
+module _ (r : Record) (kind yard farm byte3 most : ℕ) where
+  says : recordIs r kind yard farm byte3 most ≡ true → Said r kind yard farm byte3 most
   unfolding recordIs
   says h =
       let at-place = and-right (wellFormed r) _ h in
       let numbers = and-right (eqb (r .kind) kind) _ at-place in
-      let last = and-right (eqb (r .yard) yard) _ numbers in
+      let more = and-right (eqb (r .yard) yard) _ numbers in
+      let last = and-right (eqb (r .farm) farm) _ more in
       record {
         is-well-formed = and-left _ _ h;
         kind-is = eqb-true (r .kind) kind (and-left _ _ at-place);
         yard-is = eqb-true (r .yard) yard (and-left _ _ numbers);
-        farm-is = eqb-true (r .farm) farm (and-left _ _ last);
-        within = leb-true (r .amount) most (and-right (eqb (r .farm) farm) _ last);
+        farm-is = eqb-true (r .farm) farm (and-left _ _ more);
+        byte3-is = eqb-true (r .byte3) byte3 (and-left _ _ last);
+        within = leb-true (r .amount) most (and-right (eqb (r .byte3) byte3) _ last);
       }
 
 -- what the pass learns of record i
-pub yard-tested : (s : List ℕ) (i : ℕ) (r : Record) → r ≡ recordAt s i → recordIs r yardKind i 0 mostFee ≡ goodYard s i
+pub yard-tested : (s : List ℕ) (i : ℕ) (r : Record) → r ≡ recordAt s i → recordIs r yardKind i 0 0 mostFee ≡ goodYard s i
 unfolding goodYard
-yard-tested s i r is = ap (λ x. recordIs x yardKind i 0 mostFee) is
+yard-tested s i r is = ap (λ x. recordIs x yardKind i 0 0 mostFee) is
 
 -- what the pass learns of the record at the place of a haul
-module _ (s : List ℕ) (m p a : ℕ) (r : Record) (b : Bool) (is : r ≡ recordAt s (place m p a)) (tested : b ≡ recordIs r haulKind a p mostHaul) where
+module _ (s : List ℕ) (m p a byte : ℕ) (r : Record) (b : Bool) (is : r ≡ recordAt s (place m p a)) (first : byte ≡ farmByte s m p)
+    (tested : b ≡ recordIs r haulKind a p byte mostHaul) where
   pub haul-tested : b ≡ goodHaul s m p a
   unfolding goodHaul
-  haul-tested = tested ∙ ap (λ x. recordIs x haulKind a p mostHaul) is
+  haul-tested = tested ∙ ap₂ (λ x y. recordIs x haulKind a p y mostHaul) is first
 
   pub haul-read : r .amount ≡ haul s m a p
   unfolding haul
   haul-read = ap (λ (x : Record). x .amount) is
 
   pub haul-low : b ≡ true → r .amount < costLimit
-  haul-low e = omega (arith, says r haulKind a p mostHaul (sym tested ∙ e) .within)
+  haul-low e = omega (arith, says r haulKind a p byte mostHaul (sym tested ∙ e) .within)
+
+-- what it learns of the farm
+module _ (s : List ℕ) (m p : ℕ) where
+  pub many-loads : mostLoads < farmByte s m p → false ≡ goodFarm s m p
+  unfolding goodFarm
+  many-loads many = rw (lt-leb (farmByte s m p) mostLoads many)
+
+  pub bad-haul : (a : ℕ) → a < m → goodHaul s m p a ≡ false → false ≡ goodFarm s m p
+  unfolding goodFarm
+  bad-haul a l bad = rw (all-stops (goodHaul s m p) m a l bad, and-false)
+
+  pub good-hauls : farmByte s m p ≤ mostLoads → true ≡ allBelow m (goodHaul s m p) → true ≡ goodFarm s m p
+  unfolding goodFarm
+  good-hauls few good = rw (le-leb (farmByte s m p) mostLoads few) good
 
 -- ---- the sheet
 
 -- a sheet has its shape with fewer farms too
 pub fewer-farms : (s : List ℕ) (m n k : ℕ) → Shape s m n → k ≤ n → Shape s m k
 fewer-farms s m n k shape l =
-    record { room = omega (arith, mul-le-mul-right m l, shape .room); few-yards = shape .few-yards; few-farms = omega (arith, shape .few-farms) }
+    record {
+      room = omega (arith, mul-le-mul-right m l, shape .room);
+      some-yards = shape .some-yards;
+      few-yards = shape .few-yards;
+      few-farms = omega (arith, shape .few-farms);
+    }
 
 module _ (s : List ℕ) (some-yards : 1 ≤ yards s) (few-yards : yards s ≤ mostYards) (some-farms : 1 ≤ farms s) (few-farms : farms s ≤ mostFarms)
     (shared : hauls s ≡ farms s * yards s) (yards-good : allBelow (yards s) (goodYard s) ≡ true)
     (farms-good : allBelow (farms s) (goodFarm s (yards s)) ≡ true) where
-  yard-said : (i : ℕ) → i < yards s → Said (recordAt s i) yardKind i 0 mostFee
+  yard-said : (i : ℕ) → i < yards s → Said (recordAt s i) yardKind i 0 0 mostFee
   unfolding goodYard
-  yard-said i l = says (recordAt s i) yardKind i 0 mostFee (all-at (goodYard s) (yards s) i yards-good l)
+  yard-said i l = says (recordAt s i) yardKind i 0 0 mostFee (all-at (goodYard s) (yards s) i yards-good l)
 
-  haul-said : (p a : ℕ) → p < farms s → a < yards s → Said (recordAt s (place (yards s) p a)) haulKind a p mostHaul
-  unfolding goodFarm goodHaul
+  farm-said : (p : ℕ) → p < farms s → (farmByte s (yards s) p ≤ mostLoads) × (allBelow (yards s) (goodHaul s (yards s) p) ≡ true)
+  unfolding goodFarm
+  farm-said p lp =
+      let byte = farmByte s (yards s) p in
+      let both = all-at (goodFarm s (yards s)) (farms s) p farms-good lp in
+      (leb-true byte mostLoads (and-left _ _ both), and-right (leb byte mostLoads) _ both)
+
+  haul-said : (p a : ℕ) → p < farms s → a < yards s → Said (recordAt s (place (yards s) p a)) haulKind a p (farmByte s (yards s) p) mostHaul
+  unfolding goodHaul
   haul-said p a lp la =
-      says (recordAt s (place (yards s) p a)) haulKind a p mostHaul
-      (all-at (goodHaul s (yards s) p) (yards s) a (all-at (goodFarm s (yards s)) (farms s) p farms-good lp) la)
+      says (recordAt s (place (yards s) p a)) haulKind a p (farmByte s (yards s) p) mostHaul
+      (all-at (goodHaul s (yards s) p) (yards s) a (farm-said p lp .1) la)
 
   -- haul record k is that of farm k / m and yard k % m
-  haul-said-at : (k : ℕ) → k < hauls s → Said (recordAt s (yards s + k)) haulKind (k % yards s) (k / yards s) mostHaul
+  haul-said-at : (k : ℕ) → k < hauls s → Said (recordAt s (yards s + k)) haulKind (k % yards s) (k / yards s) (farmByte s (yards s) (k / yards s)) mostHaul
   haul-said-at k l =
       let m = yards s in
       let some : zero < m = omega arith in
       let farm : k / m < farms s = div-lt-iff-lt-mul some .1 (subst (λ (x : ℕ). k < x) shared l) in
-      subst (λ (i : ℕ). Said (recordAt s i) haulKind (k % m) (k / m) mostHaul) (omega (arith, mod-add-div' k m)) (haul-said (k / m) (k % m) farm (mod-lt k some))
+      subst (λ (i : ℕ). Said (recordAt s i) haulKind (k % m) (k / m) (farmByte s m (k / m)) mostHaul) (omega (arith, mod-add-div' k m)) (haul-said (k / m) (k % m) farm (mod-lt k some))
 
   second : question2 s ≡ true
   unfolding question2 wellFormedAt
@@ -123,6 +153,17 @@ module _ (s : List ℕ) (some-yards : 1 ≤ yards s) (few-yards : yards s ≤ mo
       let h = haul-said p a lp la in
       let r = recordAt s (place (yards s) p a) in
       and-both (eq-eqb (r .yard) a (h .yard-is)) (eq-eqb (r .farm) p (h .farm-is))))
+
+  tenth : question10 s ≡ true
+  unfolding question10 farmLoaded haulLoaded loadsByte
+  tenth =
+      all-from (farmLoaded s (yards s)) (farms s)
+      (λ p lp. all-from (haulLoaded s (yards s) p) (yards s)
+      (λ a la.
+      let byte = loadsByte s (yards s) a p in
+      let first = farmByte s (yards s) p in
+      let same : byte ≡ first = haul-said p a lp la .byte3-is in
+      and-both (eq-eqb byte first same) (le-leb byte mostLoads (omega (arith, farm-said p lp .0)))))
 
   fifth : question5 s ≡ true
   unfolding amountWithin
@@ -179,4 +220,4 @@ passes s m n first counted some n-is some-farms few-farms e farms-good =
     let g : allBelow (yards s) (goodYard s) ≡ true = rw (← y) (led .2) in
     let h : allBelow (farms s) (goodFarm s (yards s)) ≡ true = rw (← y, ← f) farms-good in
     let formed : Formed s = record { first = first; second = second s a b c d shared g h; third = third s a b c d shared g h; fourth = fourth s a b c d shared g h } in
-    (rw (y, f) (form-yes s formed), fifth s a b c d shared g h)
+    (rw (y, f) (loads-yes s (form-yes s formed) (tenth s a b c d shared g h)), fifth s a b c d shared g h)

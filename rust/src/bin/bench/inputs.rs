@@ -1,5 +1,5 @@
 //! The sheets that the calls are timed on.
-use planner::format::{HIGHEST_HAUL, MOST_FARMS, MOST_YARDS, RECORD};
+use planner::format::{HIGHEST_HAUL, MOST_FARMS, MOST_LOADS, MOST_YARDS, RECORD};
 use planner::random::Random;
 use planner::samples::{self, Sample};
 
@@ -12,14 +12,20 @@ pub const FEES: [u32; 2] = [3_000_000, 300_000];
 /// Hauls of so few cents are 0 in the units in which question 6 is asked first.
 const LOW_HAUL: u32 = 20;
 
-/// Accepted sheets of full size, in which high and low fees take turns.
-pub fn full_sheets() -> Vec<Sample> {
-    (0..SHEETS).map(|seed| full_sheet(seed, FEES[(seed % 2) as usize])).collect()
+/// Accepted sheets of full size, in which high and low fees take turns. With loads each farm has one to the most.
+pub fn full_sheets(with_loads: bool) -> Vec<Sample> {
+    (0..SHEETS).map(|seed| full_sheet(seed, FEES[(seed % 2) as usize], with_loads)).collect()
 }
 
-fn full_sheet(seed: u64, highest_fee: u32) -> Sample {
-    let table = samples::plane(&mut Random::new(seed), MOST_YARDS, MOST_FARMS, SPAN, highest_fee);
-    Sample { name: format!("seed {seed}, fees up to {highest_fee}"), sheet: table.sheet(), reading: None }
+fn full_sheet(seed: u64, highest_fee: u32, with_loads: bool) -> Sample {
+    let mut random = Random::new(seed);
+    let mut table = samples::plane(&mut random, MOST_YARDS, MOST_FARMS, SPAN, highest_fee);
+    let mut name = format!("seed {seed}, fees up to {highest_fee}");
+    if with_loads {
+        table.loads.fill_with(|| random.between(1, MOST_LOADS.into()) as u8);
+        name += ", with loads";
+    }
+    Sample { name, sheet: table.sheet(), reading: None }
 }
 
 /// Accepted sheets of full size on which question 6 has to be asked of every two yards by the cent.
@@ -32,7 +38,7 @@ pub fn low_hauls() -> Vec<Sample> {
 }
 
 /// Each sheet with a fault in its last record: the question that it fails, and what is wrong.
-pub fn refused(inputs: &[Sample]) -> [(u8, &'static str, Vec<Sample>); 3] {
+pub fn refused(inputs: &[Sample]) -> [(u8, &'static str, Vec<Sample>); 4] {
     let last = |change: fn(&mut [u8])| {
         let changed = |input: &Sample| {
             let mut sheet = input.sheet.clone();
@@ -43,7 +49,8 @@ pub fn refused(inputs: &[Sample]) -> [(u8, &'static str, Vec<Sample>); 3] {
         inputs.iter().map(changed).collect()
     };
     [
-        (2, "byte 3 of the last record is wrong", last(|record| record[3] = 1)),
+        (2, "the last kind is wrong", last(|record| record[0] = 0)),
+        (10, "the last loads differ", last(|record| record[3] ^= 1)),
         (5, "the last haul is too high", last(|record| record[4..].copy_from_slice(&(HIGHEST_HAUL + 1).to_le_bytes()))),
         (6, "the last haul breaks the rule", last(|record| record[4..].copy_from_slice(&HIGHEST_HAUL.to_le_bytes()))),
     ]

@@ -1,5 +1,6 @@
-//! How long each call takes: the proved library (ours), document 01 to the letter (literal), and plain Rust made for speed
-//! (fast), its sums of 64 bits as the library's are, or of 32. Before a call is timed, all must give the same answers and the same areas.
+//! How long each call takes: the proved library (ours), document 01 with papers 1 and 2 to the letter (literal), and plain
+//! Rust made for speed (fast), its sums of 64 bits as the library's are, or of 32. Before a call is timed, all must give
+//! the same answers and the same areas.
 mod calls;
 mod inputs;
 mod printing;
@@ -7,7 +8,7 @@ mod timing;
 
 use calls::{compare, Call, CALLS, OPEN_PLAN};
 use inputs::{FEES, SHEETS, SPAN};
-use planner::format::{MOST_FARMS, MOST_YARDS};
+use planner::format::{MOST_FARMS, MOST_LOADS, MOST_YARDS};
 use planner::samples::{self, Sample};
 use printing::{print_call, print_four_loops, print_heading};
 use std::process::ExitCode;
@@ -24,8 +25,9 @@ fn main() -> ExitCode {
 }
 
 fn bench() -> Result<(), String> {
-    let full = inputs::full_sheets();
+    let full = inputs::full_sheets(true);
     println!("{SHEETS} sheets of {MOST_YARDS} yards and {MOST_FARMS} farms in a square of side {SPAN}, fees up to {FEES:?} in turn.");
+    println!("Each farm has 1 to {MOST_LOADS} loads; of the same sheets without loads the lines under that heading.");
     println!("Microseconds of whole calls, made on one sheet after the other: mean over the sheets; of a sheet the median of");
     println!("{PASSES} passes, {LONG_PASSES} of literal and of four loops. Ratios: of the means (lowest to highest of a sheet).");
     println!("Ours: the proved library. Literal: document 01 to the letter in Rust. Fast: plain Rust made for speed, with sums of");
@@ -35,6 +37,11 @@ fn bench() -> Result<(), String> {
         line(&call.name(), call, &full, None)?;
     }
     print_four_loops(&full)?;
+    print_heading("The same sheets without loads");
+    let without_loads = inputs::full_sheets(false);
+    for call in CALLS {
+        line(&call.name(), call, &without_loads, None)?;
+    }
     print_heading("Other sheets");
     line("read, every two yards by the cent", Call::Read, &inputs::low_hauls(), None)?;
     let drops = samples::kept().map_err(|fault| format!("sheets/drops: {fault}"))?;

@@ -1,16 +1,19 @@
 -- `plan_fits` meets its contract: each branch is a case of `planFits`.
 use mathlib.Core.Path.{sym}
 use Rattle.price.specs.Plan.{question9}
-use Rattle.price.proofs.PlanRecordLaws.{many-yards, many-farms, fits-within}
+use Rattle.price.proofs.PlanRecordLaws.{no-yard, many-yards, many-farms, fits-within}
 use borrow.Author.Needs.{needs}
 use Rattle.price.proofs.plan.plan_fits.Statement.{statement}
 use Rattle.price.proofs.plan.plan_fits.Tie as tie
 
 returns : tie.Need-returns
-returns c = sym (many-yards _ _ _ (c .if1 .taken))
+returns c = sym (no-yard _ _ _ (c .if1 .taken))
 
 returns-2 : tie.Need-returns-2
-returns-2 c = sym (many-farms _ _ _ (c .before .if1 .left) (c .if2 .taken))
+returns-2 c = sym (many-yards _ _ _ (c .before .if1 .left) (c .if2 .taken))
+
+returns-3 : tie.Need-returns-3
+returns-3 c = let yards = c .before in sym (many-farms _ _ _ (yards .before .if1 .left) (yards .if2 .left) (c .if3 .taken))
 
 add-result : tie.Need-add-result
 add-result c = search needs
@@ -21,10 +24,10 @@ add-result-2 c = search needs
 mul-result : tie.Need-mul-result
 mul-result c = search needs
 
-returns-3 : tie.Need-returns-3
+returns-4 : tie.Need-returns-4
 unfolding question9
-returns-3 c = sym (fits-within _ _ _ (c .before .if1 .left) (c .if2 .left))
+returns-4 c = let yards = c .before in sym (fits-within _ _ _ (yards .before .if1 .left) (yards .if2 .left) (c .if3 .left))
 
 pub plan-fits-spec : {M : Type 1} → statement M
 plan-fits-spec =
-    tie.close (tie.spec returns returns-2 add-result add-result-2 mul-result returns-3)
+    tie.close (tie.spec returns returns-2 returns-3 add-result add-result-2 mul-result returns-4)

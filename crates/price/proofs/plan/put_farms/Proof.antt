@@ -26,9 +26,6 @@ put-farm-requires : tie.Need-put-farm-requires Inv-loop μ-loop
 put-farm-requires c κs = let start = c .before .before .before .before .before .before in
     (start .pre .0, start .pre .1, c .before .loop-test .taken, omega (arith, c .before .before .loop .inv .1 .written .long))
 
-cast-total : tie.Need-cast-total Inv-loop μ-loop
-cast-total c = search needs
-
 add-total : tie.Need-add-total Inv-loop μ-loop
 add-total c = let turn = c .before .before .before .before in
     let start = turn .before .before .before .before .before in
@@ -43,7 +40,7 @@ loop-less c = omega arith
 loop-again : tie.Need-loop-again Inv-loop μ-loop
 loop-again c = let turn = c .before .before .before .before in
     let put = c .before .before .put-farm in
-    (omega arith, served-more _ _ _ _ _ _ _ _ _ _ _ (omega arith) (turn .before .loop .inv .1) (put .ensures .0) (omega arith) (put .ensures .1))
+    (omega arith, served-more _ _ _ _ _ _ _ _ _ _ _ (omega arith) (turn .before .loop .inv .1) (put .ensures .0) (put .ensures .1 .0) (put .ensures .1 .1))
 
 same-length : tie.Need-same-length Inv-loop μ-loop
 same-length c = c .before .loop .inv .1 .written .long
@@ -61,7 +58,6 @@ put-farms-spec =
     mul-put-farm
     add-put-farm
     put-farm-requires
-    cast-total
     add-total
     add-farm
     loop-less

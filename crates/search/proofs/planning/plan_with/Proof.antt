@@ -35,7 +35,7 @@ returns-3 c = let low = c .before .before in
     let e = sym (arm .before .before .read .ensures) ∙ ap readingAnswer (arm .yards .given .1) in
     let form = accepts _ _ _ e .has in
     refuses _ _ 9 (no-room _ _ _ _ _ _ e (k-good _ _ (low .before .if1 .left) (low .if2 .left))
-    (said-no (c .before .plan-fits .ensures ∙ fits-within _ _ _ (form .few-yards) (form .few-farms)) (c .if3 .taken)))
+    (said-no (c .before .plan-fits .ensures ∙ fits-within _ _ _ (form .some-yards) (form .few-yards) (form .few-farms)) (c .if3 .taken)))
 
 plan-by-requires : tie.Need-plan-by-requires
 plan-by-requires c κs = let passed = c .before in
@@ -46,7 +46,7 @@ plan-by-requires c κs = let passed = c .before in
       e,
       low .before .if1 .left,
       low .if2 .left,
-      said-yes (passed .before .plan-fits .ensures ∙ fits-within _ _ _ (form .few-yards) (form .few-farms)) (passed .if3 .left),
+      said-yes (passed .before .plan-fits .ensures ∙ fits-within _ _ _ (form .some-yards) (form .few-yards) (form .few-farms)) (passed .if3 .left),
     )
 
 enum-known-number : tie.Need-enum-known-number
@@ -61,7 +61,7 @@ returns-4 c = let passed = c .before .before .before .before in
     let arm = low .before .before .before in
     let e = sym (arm .before .before .read .ensures) ∙ ap readingAnswer (arm .yards .given .1) in
     let form = accepts _ _ _ e .has in
-    let q = said-yes (passed .before .plan-fits .ensures ∙ fits-within _ _ _ (form .few-yards) (form .few-farms)) (passed .if3 .left) in
+    let q = said-yes (passed .before .plan-fits .ensures ∙ fits-within _ _ _ (form .some-yards) (form .few-yards) (form .few-farms)) (passed .if3 .left) in
     as-outcome (sym (planned _ _ _ _ _ _ e (k-good _ _ (low .before .if1 .left) (low .if2 .left)) q))
     (c .before .before .plan-by .result) _ _ (c .before .before .plan-by .ensures)
 

@@ -1,24 +1,23 @@
--- `tables::fill_fees` meets its contract. The invariant is that of `fill`.
-use mathlib.Core.Path.{_≡_, refl, ap, sym, _∙_}
+-- `tables::fill_fees` meets its contract. The invariant: the table keeps its length, and its front holds the fees of the yards passed.
+use mathlib.Core.Path.{_≡_, refl}
 use Prim.Native.Nat.{_≤_, _-_}
 use native.Mathlib.Omega.{arith}
-use native.Mathlib.Nat.{zero-add}
-use Rattle.price.specs.Nearest.{amountAt}
 use lib.ListN.{length, length-set}
+use Rattle.questions.specs.Sheet.{fee}
 use Rattle.search.specs.SheetTables.{Holds}
-use Rattle.search.proofs.SheetTableLaws.{holds-none, holds-more}
+use Rattle.search.proofs.SheetTableLaws.{holds-none, fee-more}
 use Rattle.search.proofs.tables.fill_fees.Statement.{statement}
 use Rattle.search.proofs.tables.fill_fees.Tie as tie
 
 abbrev Inv-loop : tie.InvT-loop
-Inv-loop sheet count table₀ i₀ table i = (i ≤ count) × (length table ≡ length table₀) × Holds sheet 0 i table
+Inv-loop sheet count table₀ i₀ table i = (i ≤ count) × (length table ≡ length table₀) × Holds (fee sheet) i table
 
 abbrev μ-loop : tie.MeasureT-loop
 μ-loop sheet count table₀ i₀ table i = count - i
 
 loop-holds : tie.Need-loop-holds Inv-loop μ-loop
 loop-holds c = let s = c .before .before in
-    (omega arith, refl, holds-none (s .args .sheet .now) 0 (s .args .table .now))
+    (omega arith, refl, holds-none (fee (s .args .sheet .now)) (s .args .table .now))
 
 amount-at-requires : tie.Need-amount-at-requires Inv-loop μ-loop
 amount-at-requires c κs = omega arith
@@ -43,8 +42,7 @@ loop-again c = let s = c .before .before .before .before .before in
     let l = c .before .before .loop in (
       omega arith,
       simp length-set (l .inv .1),
-      holds-more (s .args .sheet .now) 0 (l .i) _ (l .table) (omega arith)
-          (c .amount-at .ensures ∙ ap (amountAt (s .args .sheet .now)) (sym (zero-add (l .i)))) (l .inv .2),
+      fee-more (s .args .sheet .now) (l .i) _ (l .table) (omega arith) (c .amount-at .ensures) (l .inv .2),
     )
 
 same-length : tie.Need-same-length Inv-loop μ-loop

@@ -56,7 +56,7 @@ good-farms-requires c κs = let shared = c .before in
     let counted = some .before in
     let start = counted .before .before .before .before .before .before in
     let led = yards-counted (start .args .sheet .now) _ (counted .good-yards .ensures) (some .if4 .left) in
-    (record { room = omega (arith, led .0, yards-le (start .args .sheet .now)); few-yards = led .1; few-farms = omega arith }, start .pre)
+    (record { room = omega (arith, led .0, yards-le (start .args .sheet .now)); some-yards = some .if4 .left; few-yards = led .1; few-farms = omega arith }, start .pre)
 
 same-length : tie.Need-same-length
 same-length c = search needs
