@@ -1,7 +1,7 @@
 -- Laws of a plan's records: what each is on a sheet, how long the parts are, when a plan is written at all, and by what writes.
 use Prim.Native.Nat.{ℕ, zero, suc, _+_, _*_, _≤_, _<_}
 use native.Mathlib.Omega.{arith}
-use mathlib.Core.Path.{_≡_, refl, sym, ap, _∙_}
+use mathlib.Core.Path.{_≡_, refl, sym, ap, ap₂, _∙_}
 use mathlib.Core.Bool.{Bool, true, false, _&&_}
 use mathlib.Core.List.{List, [], _++_, append-assoc}
 use borrow.Author.Tests.{le-leb, lt-leb, leb-true}
@@ -17,7 +17,7 @@ use Rattle.model.proofs.PlaceLaws.{few-places}
 use Rattle.record.specs.Records.{recordOf, recordAt, wholeRecordAt, bytesOf, splice}
 use Rattle.record.specs.declared.Record.{Record}
 use Rattle.questions.specs.Bounds.{mostYards, mostFarms}
-use Rattle.questions.specs.Sheet.{fee, loadsByte, farmByte, instanceBy}
+use Rattle.questions.specs.Sheet.{fee, loadsByte, farmByte, loadsOf, instanceBy}
 use Rattle.questions.specs.Shape.{Shape}
 use Rattle.sheet.specs.Stretch.{stretch}
 use Rattle.record.proofs.RecordLaws.{whole}
@@ -99,6 +99,16 @@ module _ (s : List ℕ) (m n set : ℕ) where
         rw (farm-yard s m n p shape l set, farm-haul s m n p shape l set),
         farm-yard-small s m n p shape l set,
       )
+
+  -- what a farm's loads cost, and its record, by what is read off the stretch: the nearest yard on it, and its first record
+  pub farm-from : Shape s m n → (p : ℕ) → p < n → (hauls : List ℕ) (near : Nearest) (first : Record) (loads : ℕ)
+      → hauls ≡ stretch s m p → near ≡ nearestOn s hauls set → first ≡ wholeRecordAt hauls 0 → loads ≡ loadsOf (first .byte3)
+      → (loads * near .haul ≡ loadsOf (farmByte s m p) * nearest (instanceBy s m n) (member set) p)
+      × (bytesOf (recordOf farmKind (near .yard) p (first .byte3) (near .haul)) ≡ farmRecord (instanceBy s m n) (farmByte s m) set p)
+  farm-from shape p l hauls near first loads part e e′ told =
+      let is = farm-on shape p l hauls near part e in
+      let repeated = byte-on s m n p shape l hauls first part e′ in
+      (ap₂ _*_ (told ∙ ap loadsOf repeated) (is .0), rw repeated (sym (is .1)))
 
   -- the yards' records, the farms' and the last two
   pub plan-parts : (total moves : ℕ) → planBytes (instanceBy s m n) (farmByte s m) set total moves

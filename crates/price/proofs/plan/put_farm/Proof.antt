@@ -1,14 +1,12 @@
 -- `put_farm` meets its contract: the record of the nearest yard on the farm's stretch, at the offset.
 use native.Mathlib.Nat.{lt-of-le-of-lt}
 use native.Mathlib.Omega.{arith}
-use mathlib.Core.Path.{sym, ap, ap₂, _∙_}
-use Prim.Native.Nat.{_*_}
+use mathlib.Core.Path.{ap, _∙_}
 use Rattle.record.specs.Records.{recordOf, splice}
-use Rattle.questions.specs.Sheet.{loadsOf}
 use Rattle.price.proofs.NearestLaws.{farm-yards}
 use Rattle.price.proofs.SheetCostLaws.{loads-small}
 use Rattle.price.proofs.WriteLaws.{put-one}
-use Rattle.price.proofs.PlanRecordLaws.{farm-on, byte-on}
+use Rattle.price.proofs.PlanRecordLaws.{farm-on, farm-from}
 use borrow.Author.Needs.{needs}
 use Rattle.price.proofs.plan.put_farm.Statement.{statement}
 use Rattle.price.proofs.plan.put_farm.Tie as tie
@@ -53,20 +51,16 @@ same-length : tie.Need-same-length
 same-length c = search needs
 
 returns : tie.Need-returns
-returns c = let loads = c .before .loads-of .ensures in
-    let new = c .before .before .before .before .before .before in
+returns c = let new = c .before .before .before .before .before .before in
     let read = new .before .before in
     let near = read .before in
     let start = near .before .before .before .before .before in
     let r = near .nearest-of .result in
     let byte = read .at .result .byte3 in
-    let small = loads-small _ byte (r .haul) loads (omega (arith, read .at .ok)) (omega (arith, near .nearest-of .ok)) in
-    let is = farm-on _ _ _ _ (start .pre .0) _ (start .pre .2) _ _ (near .before .farm-stretch .ensures) (near .nearest-of .ensures) in
-    let repeated = byte-on _ _ _ _ (start .pre .0) (start .pre .2) _ _ (near .before .farm-stretch .ensures) (read .at .ensures) in
-    let put = put-one _ _ _ _ (recordOf 0x41 (r .yard) (start .args .farm) byte (r .haul)) (start .pre .3) (new .new .ensures) (c .before .before .before .before .put .ensures) in (
-      ap₂ _*_ (loads ∙ ap loadsOf repeated) (is .0),
-      (small, put ∙ ap (splice _ _) (rw repeated (sym (is .1)))),
-    )
+    let small = loads-small _ byte (r .haul) (c .before .loads-of .ensures) (omega (arith, read .at .ok)) (omega (arith, near .nearest-of .ok)) in
+    let put = put-one _ _ _ _ (recordOf 0x41 (r .yard) (start .args .farm) byte (r .haul)) (start .pre .3) (new .new .ensures) (c .before .before .before .before .put .ensures) in
+    let is = farm-from _ _ _ _ (start .pre .0) _ (start .pre .2) _ _ _ _ (near .before .farm-stretch .ensures) (near .nearest-of .ensures) (read .at .ensures) (c .before .loads-of .ensures) in
+    (is .0, (small, put ∙ ap (splice _ _) (is .1)))
 
 pub put-farm-spec : {M : Type 1} → statement M
 put-farm-spec =

@@ -2,7 +2,7 @@
 -- loads.
 use mathlib.Core.Path.{_≡_, refl, sym, ap, subst, _∙_}
 use Prim.Native.Nat.{ℕ, _+_, _-_, _*_, _≤_, _<_}
-use native.Mathlib.Nat.{lt-of-le-of-lt, add-zero}
+use native.Mathlib.Nat.{lt-of-le-of-lt, lt-of-lt-of-le, add-zero}
 use native.Mathlib.Omega.{arith}
 use lib.ListN.{length, length-set}
 use borrow.Author.Needs.{needs}
@@ -43,17 +43,6 @@ amount-at-requires c κs = let cut = c .before .before .before .before in
 cast-cost : tie.Need-cast-cost Inv-loop μ-loop
 cast-cost c = search needs
 
-mul-cost : tie.Need-mul-cost Inv-loop μ-loop
-mul-cost c = let turn = c .before .before in
-    let told = turn .before in
-    let first = told .before in
-    let cut = first .before in
-    let s = cut .before .before .before in
-    let a = s .args in
-    let small = product-small (a .sheet .now) (a .m) (a .n) (a .farm) (s .pre .0) (s .pre .1) _ (cut .farm-stretch .ensures) _ (first .at .ensures) _
-    (told .loads-of .ensures) (turn .loop .a) _ (c .before .loop-test .taken) (c .amount-at .ensures) in
-    record { fits = lt-of-le-of-lt small (omega arith) }
-
 cast-table : tie.Need-cast-table Inv-loop μ-loop
 cast-table c = let turn = c .before .before in
     let told = turn .before in
@@ -64,6 +53,9 @@ cast-table c = let turn = c .before .before in
     let small = product-small (a .sheet .now) (a .m) (a .n) (a .farm) (s .pre .0) (s .pre .1) _ (cut .farm-stretch .ensures) _ (first .at .ensures) _
     (told .loads-of .ensures) (turn .loop .a) _ (c .before .loop-test .taken) (c .amount-at .ensures) in
     record { fits = lt-of-le-of-lt small (omega arith) }
+
+mul-cost : tie.Need-mul-cost Inv-loop μ-loop
+mul-cost c = record { fits = lt-of-lt-of-le (cast-table c .fits) (omega arith) }
 
 mul-table : tie.Need-mul-table Inv-loop μ-loop
 mul-table c = let turn = c .before .before in
