@@ -1,31 +1,40 @@
 /*
- * The yard planner for C: reads haul sheets, prices sets of yards, makes open and limited plans (document 01 with papers 1 and 2 of
- * document 02).
+ * The yard planner for C: reads haul sheets, prices sets of yards, makes open and limited plans, from hauls or from distances by a tariff
+ * (document 01 with papers 1, 2 and 3 of document 02).
  *
  * Link target/staticlib/libexports.a, which `rt staticlib exports` proves and writes (x86-64; it needs memcpy and memset and nothing else).
  * What each call promises is its contract in crates/exports/src/lib.rt: its answer and the area after it for every input; that a priced
  * plan has the set given and a limited plan k yards; and for both plans that no move lowers the cost and that no rival is far
  * cheaper (an open plan costs at most three times a rival's set, the hauls of a limited plan are at most five times those of a rival
- * with as many yards or fewer; the rival carries the same loads).
+ * with as many yards or fewer; the rival carries the same loads and pays by the same tariff).
  *
- * Every call ends, whatever the bytes of the sheet, the set, k and the lengths are, and either gives its whole result or refuses by
- * the number of the first question that is answered no. The caller sees to three things that no proof can: no
+ * Every call ends, whatever the bytes of the sheet and of the tariff, the set, k and the lengths are, and either gives its whole result
+ * or refuses by the number of the first question that is answered no. The caller sees to three things that no proof can: no
  * pointer is NULL (also where its length is 0), as many bytes as the length says can be read, and in an area written, and an area
- * overlaps no sheet. A sheet is only read. No call keeps a pointer, allocates memory, or has a state of its own: several threads
- * may call at once, each with its own area.
+ * overlaps no sheet and no tariff. A sheet and a tariff are only read. No call keeps a pointer, allocates memory, or has a state of its
+ * own: several threads may call at once, each with its own area.
  *
- * A record has eight bytes: byte 0 the kind, byte 1 a yard number, byte 2 a farm number, byte 3 a farm's loads, bytes 4 to 7 an amount
- * in cents, lowest byte first. Numbers count from 0; bytes not named are zero.
+ * A record has eight bytes, of which byte 0 is the kind. In a sheet and in a plan byte 1 is a yard number, byte 2 a farm number, byte 3 a
+ * farm's loads, bytes 4 to 7 an amount in cents, lowest byte first. Numbers count from 0; bytes not named are zero. Kinds are hexadecimal.
  *
  *   kind   in a sheet of m yards and n farms, in this order
  *   59     for each yard: byte 1 the yard, the amount its fee
  *   48     for each farm, for each yard: byte 1 the yard, byte 2 the farm, byte 3 the farm's loads, 1 to 20, with 0 read as 1, the same
  *          byte in all of a farm's records, the amount the haul of one load
  *
+ *   kind   in a tariff, 1 to 16 records
+ *   42     for each band: byte 1 the band, bytes 2 and 3 its start, bytes 4 and 5 its end, both in hundreds of metres, bytes 6 and 7 its
+ *          rate in cents per hundred metres, each lowest byte first; band 0 starts at 0, each other band where the one before it ends
+ *
+ * By a tariff the amounts of haul records are distances in hundreds of metres. A haul is the sum over bands of the distance inside the
+ * band times its rate; fees are as given. The house tariff has ends 100, 250, 500, 1000, 2000, 4000 and rates 40, 34, 28, 22, 18, 15: a
+ * distance of 120 costs 4,680.
+ *
  *   kind   in a plan, in this order
  *   4F     for each open yard: byte 1 the yard, the amount its fee
- *   41     for each farm: byte 1 its yard, byte 2 the farm, byte 3 as in its haul records (0 stays 0), the amount the haul of one load; the
- *          yard is the open one of smallest haul, among equals the one of lower fee (in a limited plan too), and only then the lower number
+ *   41     for each farm: byte 1 its yard, byte 2 the farm, byte 3 as in its haul records (0 stays 0), the amount the haul of one load, by a
+ *          tariff the priced one; the yard is the open one of smallest haul, among equals the one of lower fee (in a limited plan too), and
+ *          only then the lower number
  *   54     once: byte 1 the count of open yards, byte 2 n, the amount the total (fees and each farm's loads times its haul; in a limited
  *          plan without the fees)
  *   4D     once: the amount the moves made, 0 for pricing
@@ -34,13 +43,18 @@
  * higher bits 0, and leaves the area as it was.
  *
  *   number   what the sheet, or what is given beside it, has to be, in the order of asking
+ *     11     a given tariff: 1 to 16 whole records, every one of kind 42 hex with the number of its place, a start that is 0 or the end of
+ *            the band before it, and an end above its start
+ *     12     a given tariff: no rate is above that of the band before it
  *      1     the length is a multiple of 8, from 16 to 33,024 bytes
  *      2     every kind is 59 or 48 hex, bytes 2 and 3 zero in every yard record
  *      3     1 to 32 yard records stand first, numbered from 0 in order, with none after them
  *      4     the haul records are m times n with n from 1 to 128, each with the yard and farm number of its place
  *     10     byte 3 of every haul record is at most 20, and the same in all of a farm's records
- *      5     every fee is at most 50,000,000 and every haul at most 1,000,000
- *      6     the four-point rule: haul(a, q) is at most haul(a, p) + haul(b, p) + haul(b, q), for all yards a, b and farms p, q
+ *     13     by a tariff: no distance is past the end of the last band
+ *      5     every fee is at most 50,000,000 and every haul, by a tariff the priced one, at most 1,000,000
+ *      6     the four-point rule: haul(a, q) is at most haul(a, p) + haul(b, p) + haul(b, q), for all yards a, b and farms p, q; by a
+ *            tariff it is about the priced hauls, which keep it where the distances do
  *      7     limited plan: k is from 1 to m
  *      8     pricing: the set marks at least one yard and none numbered m or above
  *      9     pricing and plans: the area has at least 8 * (m + n + 2) bytes
@@ -57,6 +71,18 @@ extern "C" {
 
 /* An area of so many bytes holds the plan of every sheet. */
 #define PLANNER_MOST_AREA (8 * (32 + 128 + 2))
+
+/* A tariff of so many bytes has the most bands. */
+#define PLANNER_MOST_TARIFF (8 * 16)
+
+/*
+ * What `hauls` tells a call by a tariff about the amounts of haul records: 0, hauls as written; 1, distances by the house tariff; any other
+ * number, distances by the tariff that is handed over. The bytes of `tariff` are looked at only in the last case; the pointer is not NULL
+ * in any.
+ */
+#define PLANNER_HAULS 0
+#define PLANNER_HOUSE_TARIFF 1
+#define PLANNER_GIVEN_TARIFF 2
 
 /* Asks questions 1 to 4, 10, 5 and 6. Bits 8 to 15: the yards m; bits 16 to 23: the farms n. */
 uint64_t planner_read(const uint8_t *sheet, size_t sheet_len);
@@ -83,6 +109,19 @@ uint64_t planner_open_plan(const uint8_t *sheet, size_t sheet_len, uint8_t *area
 
 /* The limited plan for k yards, by hauls alone. Asks what planner_read asks, then 7 and 9. */
 uint64_t planner_limited_plan(const uint8_t *sheet, size_t sheet_len, size_t k, uint8_t *area, size_t area_len);
+
+/*
+ * The same calls by a tariff; with PLANNER_HAULS each gives what the call without a tariff gives. A given tariff is asked 11 and then 12
+ * ahead of question 1; by it and by the house tariff 13 is asked between 10 and 5. The calls for a farm's stretch know no tariff and give
+ * distances as they stand.
+ */
+uint64_t planner_read_by(const uint8_t *sheet, size_t sheet_len, uint8_t hauls, const uint8_t *tariff, size_t tariff_len);
+uint64_t planner_price_by(const uint8_t *sheet, size_t sheet_len, uint8_t hauls, const uint8_t *tariff, size_t tariff_len, uint32_t set,
+                          uint8_t *area, size_t area_len);
+uint64_t planner_open_plan_by(const uint8_t *sheet, size_t sheet_len, uint8_t hauls, const uint8_t *tariff, size_t tariff_len, uint8_t *area,
+                              size_t area_len);
+uint64_t planner_limited_plan_by(const uint8_t *sheet, size_t sheet_len, uint8_t hauls, const uint8_t *tariff, size_t tariff_len, size_t k,
+                                 uint8_t *area, size_t area_len);
 
 /* The parts of a result. */
 static inline unsigned planner_refusal(uint64_t result) { return (unsigned)(result & 0xFF); }

@@ -1,5 +1,6 @@
-//! The implementations of document 01 side by side: the proved library, the second program, and the fast one.
-use crate::{fast, library, literal, Answer, Counts, Written};
+//! The implementations of document 01 side by side: the proved library, the second program, and the fast one. Every call comes
+//! without a tariff and by one (paper 3 of document 02).
+use crate::{fast, library, literal, Answer, Counts, Tariff, Written};
 
 /// The calls of one implementation.
 pub struct Calls {
@@ -8,6 +9,10 @@ pub struct Calls {
     pub price: fn(&[u8], u32, &mut [u8]) -> Answer<Written>,
     pub open_plan: fn(&[u8], &mut [u8]) -> Answer<Written>,
     pub limited_plan: fn(&[u8], usize, &mut [u8]) -> Answer<Written>,
+    pub read_by: fn(&[u8], Tariff) -> Answer<Counts>,
+    pub price_by: fn(&[u8], Tariff, u32, &mut [u8]) -> Answer<Written>,
+    pub open_plan_by: fn(&[u8], Tariff, &mut [u8]) -> Answer<Written>,
+    pub limited_plan_by: fn(&[u8], Tariff, usize, &mut [u8]) -> Answer<Written>,
 }
 
 pub const LIBRARY: Calls = Calls {
@@ -16,6 +21,20 @@ pub const LIBRARY: Calls = Calls {
     price: library::price,
     open_plan: library::open_plan,
     limited_plan: library::limited_plan,
+    read_by: library::read_by,
+    price_by: library::price_by,
+    open_plan_by: library::open_plan_by,
+    limited_plan_by: library::limited_plan_by,
+};
+
+/// Each call without a tariff made through the one by a tariff, which is given none.
+pub const LIBRARY_BY_NONE: Calls = Calls {
+    name: "library by no tariff",
+    read: |sheet| library::read_by(sheet, Tariff::None),
+    price: |sheet, set, area| library::price_by(sheet, Tariff::None, set, area),
+    open_plan: |sheet, area| library::open_plan_by(sheet, Tariff::None, area),
+    limited_plan: |sheet, k, area| library::limited_plan_by(sheet, Tariff::None, k, area),
+    ..LIBRARY
 };
 
 pub const LITERAL: Calls = Calls {
@@ -24,23 +43,36 @@ pub const LITERAL: Calls = Calls {
     price: literal::price,
     open_plan: literal::open_plan,
     limited_plan: literal::limited_plan,
+    read_by: literal::read_by,
+    price_by: literal::price_by,
+    open_plan_by: literal::open_plan_by,
+    limited_plan_by: literal::limited_plan_by,
 };
 
-/// With sums of 64 bits, as the library has them.
+/// With sums of 64 bits and distances priced by lines, as the library has them.
 pub const FAST: Calls = Calls {
     name: "fast",
     read: fast::read,
     price: fast::price,
     open_plan: fast::open_plan::<u64>,
     limited_plan: fast::limited_plan::<u64>,
+    read_by: fast::read_by::<u64>,
+    price_by: fast::price_by::<u64>,
+    open_plan_by: fast::open_plan_by::<u64>,
+    limited_plan_by: fast::limited_plan_by::<u64>,
 };
 
+/// With sums of 32 bits, and distances priced in numbers of 16 where they fit.
 pub const FAST_32: Calls = Calls {
     name: "fast, sums of 32 bits",
     read: fast::read,
     price: fast::price,
     open_plan: fast::open_plan::<u32>,
     limited_plan: fast::limited_plan::<u32>,
+    read_by: fast::read_by::<u32>,
+    price_by: fast::price_by::<u32>,
+    open_plan_by: fast::open_plan_by::<u32>,
+    limited_plan_by: fast::limited_plan_by::<u32>,
 };
 
 pub const ALL: [Calls; 4] = [LIBRARY, LITERAL, FAST, FAST_32];
@@ -60,6 +92,15 @@ impl PlanCall {
             PlanCall::Price { set } => (calls.price)(sheet, set, area),
             PlanCall::OpenPlan => (calls.open_plan)(sheet, area),
             PlanCall::LimitedPlan { k } => (calls.limited_plan)(sheet, k, area),
+        }
+    }
+
+    /// The same by a tariff.
+    pub fn put_by(self, calls: &Calls, sheet: &[u8], tariff: Tariff, area: &mut [u8]) -> Answer<Written> {
+        match self {
+            PlanCall::Price { set } => (calls.price_by)(sheet, tariff, set, area),
+            PlanCall::OpenPlan => (calls.open_plan_by)(sheet, tariff, area),
+            PlanCall::LimitedPlan { k } => (calls.limited_plan_by)(sheet, tariff, k, area),
         }
     }
 }

@@ -1,4 +1,4 @@
-//! A sheet typed as a table, in CSV as a spreadsheet saves it:
+//! A sheet typed as a table, in CSV as a spreadsheet saves it (`tariff` has the table of a tariff):
 //!
 //! ```text
 //! cents,Magdeburg,"Burg, harbour"
@@ -17,18 +17,63 @@
 //! Barleben,12,58400,120500
 //! Möser,,60100,33700
 //! ```
+//!
+//! A table of distances says so in its first cell, and that its fees are cents (paper 3 of document 02). A tariff prices them:
+//!
+//! ```text
+//! distances in hundreds of metres,Magdeburg,"Burg, harbour"
+//! fee in cents,900000,600000
+//! Barleben,103,236
+//! ```
 mod lines;
+mod tariff;
 
 use crate::format::{MOST_FARMS, MOST_LOADS, MOST_YARDS};
 use crate::table::Table;
 use crate::words::Names;
 use lines::{lines, Line};
+pub use tariff::read_tariff;
 
-/// A table and the names that the sheet has no room for.
+/// A table, what its first cell says that it is of, and the names that the sheet has no room for.
 #[derive(Debug)]
 pub struct Typed {
     pub table: Table,
+    pub amounts: Amounts,
     pub names: Names,
+}
+
+/// What a table has for each farm and yard.
+#[derive(Clone, Copy, Debug, PartialEq, Eq)]
+pub enum Amounts {
+    Hauls,
+    Distances,
+}
+
+impl Amounts {
+    const BOTH: [Amounts; 2] = [Amounts::Hauls, Amounts::Distances];
+
+    /// The first cell of line 1.
+    fn corner(self) -> &'static str {
+        match self {
+            Amounts::Hauls => "cents",
+            Amounts::Distances => "distances in hundreds of metres",
+        }
+    }
+
+    /// The first cell of line 2.
+    fn fee(self) -> &'static str {
+        match self {
+            Amounts::Hauls => "fee",
+            Amounts::Distances => "fee in cents",
+        }
+    }
+
+    fn unit(self) -> &'static str {
+        match self {
+            Amounts::Hauls => CENTS,
+            Amounts::Distances => "hundreds of metres",
+        }
+    }
 }
 
 /// What is wrong and where: lines and columns count from 1.
@@ -40,9 +85,11 @@ pub struct Fault {
 }
 
 const LOADS_COLUMN: usize = 2;
+const CENTS: &str = "cents";
 
-/// What line 1 names: the yards, and before them the column of loads where there is one.
+/// What line 1 names: what the table is of, the yards, and before them the column of loads where there is one.
 struct Head {
+    amounts: Amounts,
     has_loads: bool,
     yards: Vec<String>,
 }
@@ -63,12 +110,12 @@ pub fn read(file: &[u8]) -> Result<Typed, Fault> {
         let line = line?;
         farms.push(farm(&line, &farms)?);
         table.loads.push(loads(&line, &head)?);
-        table.hauls.push(amounts(&line, &head)?);
+        table.hauls.push(amounts(&line, &head, head.amounts.unit())?);
     }
     if farms.is_empty() {
         return fault(3, 1, "there is no farm; asked: one line for each farm, at least one (question 4)");
     }
-    Ok(Typed { table, names: Names { yards: head.yards, farms } })
+    Ok(Typed { table, amounts: head.amounts, names: Names { yards: head.yards, farms, ..Names::default() } })
 }
 
 fn fault<T>(line: usize, column: usize, words: impl Into<String>) -> Result<T, Fault> {
@@ -78,12 +125,14 @@ fn fault<T>(line: usize, column: usize, words: impl Into<String>) -> Result<T, F
 /// The names of the first line.
 fn head(line: Option<Line>) -> Result<Head, Fault> {
     let cells = line.map_or(Vec::new(), |line| line.cells);
-    if !cells.first().is_some_and(|corner| corner.eq_ignore_ascii_case("cents")) {
-        return fault(1, 1, "asked here: the word cents (amounts are whole cents), then the name of each yard");
-    }
+    let says = |amounts: &Amounts| cells.first().is_some_and(|corner| corner.eq_ignore_ascii_case(amounts.corner()));
+    let Some(amounts) = Amounts::BOTH.into_iter().find(says) else {
+        let asked = format!("the word cents (amounts are whole cents) or the words {}", Amounts::Distances.corner());
+        return fault(1, 1, format!("asked here: {asked}, then the name of each yard"));
+    };
     let has_loads = cells.get(LOADS_COLUMN - 1).is_some_and(|name| heads_loads(name));
     let yards = cells[1 + usize::from(has_loads)..].to_vec();
-    let head = Head { has_loads, yards };
+    let head = Head { amounts, has_loads, yards };
     if head.yards.is_empty() {
         let called = if has_loads { ", and a yard cannot be called loads" } else { "" };
         let words = format!("there is no yard{called}; asked: the name of each yard, at least one (question 3)");
@@ -120,15 +169,17 @@ fn fees(line: Option<Line>, head: &Head) -> Result<Vec<u32>, Fault> {
     let Some(line) = line else {
         return fault(2, 1, "the line of fees is missing");
     };
-    if !line.cell(1).eq_ignore_ascii_case("fee") {
-        return fault(line.number, 1, "asked here: the word fee, then the fee of each yard");
+    let asked = head.amounts.fee();
+    if !line.cell(1).eq_ignore_ascii_case(asked) {
+        let word = if head.amounts == Amounts::Hauls { "word" } else { "words" };
+        return fault(line.number, 1, format!("asked here: the {word} {asked}, then the fee of each yard"));
     }
     if head.has_loads && !line.cell(LOADS_COLUMN).is_empty() {
         let words =
             "this is the column of loads, which have no fee; asked here: an empty cell. A yard cannot be called loads";
         return fault(line.number, LOADS_COLUMN, words);
     }
-    amounts(&line, head)
+    amounts(&line, head, CENTS)
 }
 
 /// The name of the line's farm, which none of the others before it has.
@@ -168,12 +219,12 @@ fn loads_byte(cell: &str) -> Result<u8, String> {
 }
 
 /// The amounts of a line, one for each yard.
-fn amounts(line: &Line, head: &Head) -> Result<Vec<u32>, Fault> {
+fn amounts(line: &Line, head: &Head, unit: &str) -> Result<Vec<u32>, Fault> {
     let mut amounts = Vec::new();
     for (yard, name) in head.yards.iter().enumerate() {
         let column = head.column_of_yard(yard);
-        match amount(line.cell(column)) {
-            Ok(cents) => amounts.push(cents),
+        match amount(line.cell(column), unit) {
+            Ok(amount) => amounts.push(amount),
             Err(words) => return fault(line.number, column, format!("under yard {name}: {words}")),
         }
     }
@@ -184,12 +235,12 @@ fn amounts(line: &Line, head: &Head) -> Result<Vec<u32>, Fault> {
     Ok(amounts)
 }
 
-fn amount(cell: &str) -> Result<u32, String> {
+fn amount(cell: &str, unit: &str) -> Result<u32, String> {
     if cell.is_empty() {
         return Err("the amount is missing".into());
     }
     if !is_whole(cell) {
-        return Err(format!("'{cell}' is no whole number of cents; asked: digits alone"));
+        return Err(format!("'{cell}' is no whole number of {unit}; asked: digits alone"));
     }
     cell.parse().map_err(|_| format!("{cell} is more than the four bytes of an amount hold, {}", u32::MAX))
 }

@@ -1,5 +1,5 @@
-//! The records of sheets and plans, and document 01's bounds. `literal` has its own, and so have the tests of document 01's
-//! examples.
+//! The records of sheets, plans and tariffs, and the bounds of document 01 and of papers 2 and 3 of document 02. `literal` has its
+//! own, and so have the tests of document 01's examples.
 
 /// The bytes of a record.
 pub const RECORD: usize = 8;
@@ -13,6 +13,13 @@ pub const OPEN: u8 = 0x4F;
 pub const FARM: u8 = 0x41;
 pub const TOTAL: u8 = 0x54;
 pub const MOVES: u8 = 0x4D;
+
+/// The kind of a tariff's records, and how many there are at most.
+pub const BAND: u8 = 0x42;
+pub const MOST_BANDS: usize = 16;
+
+/// The house tariff: the end and the rate of each band.
+pub const HOUSE: [(u16, u16); 6] = [(100, 40), (250, 34), (500, 28), (1_000, 22), (2_000, 18), (4_000, 15)];
 
 /// The bounds of questions 1, 3, 4, 5 and 10.
 pub const SHORTEST_SHEET: usize = 16;
@@ -40,6 +47,12 @@ pub fn record(kind: u8, yard: usize, farm: usize, amount: u32) -> [u8; RECORD] {
 pub fn record_with_loads(kind: u8, yard: usize, farm: usize, loads: u8, amount: u32) -> [u8; RECORD] {
     let [a, b, c, d] = amount.to_le_bytes();
     [kind, yard as u8, farm as u8, loads, a, b, c, d]
+}
+
+/// One record of a tariff. A number above 255 loses its high part, as faulty tariffs may have it.
+pub fn band(number: usize, start: u16, end: u16, rate: u16) -> [u8; RECORD] {
+    let [[a, b], [c, d], [e, f]] = [start, end, rate].map(u16::to_le_bytes);
+    [BAND, number as u8, a, b, c, d, e, f]
 }
 
 /// The amount of a record, which has all its bytes.

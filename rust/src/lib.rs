@@ -1,7 +1,9 @@
-//! The yard planner for Rust (`library`), and what it is held against: the whole of document 01, with papers 1 and 2 of
+//! The yard planner for Rust (`library`), and what it is held against: the whole of document 01, with papers 1, 2 and 3 of
 //! document 02, a second time (`literal`), the same as fast as plain Rust makes it (`fast`), all side by side (`calls`),
-//! question 6 alone by its four loops (`four_loops`), and sheets of every kind (`samples`). `csv` and `words` are the tool
-//! `sheet`. `format`, `table` and `random` serve the others: the format's constants, a sheet as a table, seeded numbers.
+//! question 6 alone by its four loops (`four_loops`), and sheets of every kind (`samples`). `csv`, `words` and `bands`, a tariff as
+//! its bands, are the tool `sheet`. `format`, `table` and `random` serve the others: the format's constants, a sheet as a table,
+//! seeded numbers.
+pub mod bands;
 pub mod calls;
 pub mod csv;
 pub mod fast;
@@ -13,6 +15,16 @@ pub mod random;
 pub mod samples;
 pub mod table;
 pub mod words;
+
+/// What the amounts of haul records are (paper 3 of document 02): hauls as written, or distances by the house tariff or by a tariff
+/// of these bytes.
+#[derive(Clone, Copy, Debug, Default, PartialEq, Eq)]
+pub enum Tariff<'a> {
+    #[default]
+    None,
+    House,
+    Given(&'a [u8]),
+}
 
 /// What an accepted reading gives.
 #[derive(Clone, Copy, Debug, PartialEq, Eq)]

@@ -2,7 +2,10 @@
 //!
 //! Every call takes any bytes, any set, any count and any area. A refused call gives document 01's number and leaves the area as
 //! it was.
-use crate::{Answer, Counts, Written};
+#[cfg(test)]
+mod tests;
+
+use crate::{Answer, Counts, Tariff, Written};
 
 /// Each takes a slice as its pointer and its length. A slice of Rust is what `planner.h` asks of the two, and an area lent as
 /// `&mut` overlaps no sheet: so every call below is sound.
@@ -17,6 +20,42 @@ mod raw {
         pub fn planner_limited_plan(
             sheet: *const u8,
             sheet_len: usize,
+            k: usize,
+            area: *mut u8,
+            area_len: usize,
+        ) -> u64;
+        pub fn planner_read_by(
+            sheet: *const u8,
+            sheet_len: usize,
+            hauls: u8,
+            tariff: *const u8,
+            tariff_len: usize,
+        ) -> u64;
+        pub fn planner_price_by(
+            sheet: *const u8,
+            sheet_len: usize,
+            hauls: u8,
+            tariff: *const u8,
+            tariff_len: usize,
+            set: u32,
+            area: *mut u8,
+            area_len: usize,
+        ) -> u64;
+        pub fn planner_open_plan_by(
+            sheet: *const u8,
+            sheet_len: usize,
+            hauls: u8,
+            tariff: *const u8,
+            tariff_len: usize,
+            area: *mut u8,
+            area_len: usize,
+        ) -> u64;
+        pub fn planner_limited_plan_by(
+            sheet: *const u8,
+            sheet_len: usize,
+            hauls: u8,
+            tariff: *const u8,
+            tariff_len: usize,
             k: usize,
             area: *mut u8,
             area_len: usize,
@@ -63,6 +102,45 @@ pub fn open_plan(sheet: &[u8], area: &mut [u8]) -> Answer<Written> {
 /// Writes the limited plan for k yards to the front of the area.
 pub fn limited_plan(sheet: &[u8], k: usize, area: &mut [u8]) -> Answer<Written> {
     written(unsafe { raw::planner_limited_plan(sheet.as_ptr(), sheet.len(), k, area.as_mut_ptr(), area.len()) })
+}
+
+/// `read` on a sheet of distances by a tariff, which is asked 11 and 12 ahead of question 1; 13 comes just before 5.
+pub fn read_by(sheet: &[u8], tariff: Tariff) -> Answer<Counts> {
+    let (hauls, tariff) = told(tariff);
+    counted(unsafe { raw::planner_read_by(sheet.as_ptr(), sheet.len(), hauls, tariff.as_ptr(), tariff.len()) })
+}
+
+/// `price` on a sheet of distances by a tariff: the records hold the priced hauls.
+pub fn price_by(sheet: &[u8], tariff: Tariff, set: u32, area: &mut [u8]) -> Answer<Written> {
+    let (hauls, tariff) = told(tariff);
+    let (sheet_len, tariff_len, area_len) = (sheet.len(), tariff.len(), area.len());
+    let (sheet, tariff, area) = (sheet.as_ptr(), tariff.as_ptr(), area.as_mut_ptr());
+    written(unsafe { raw::planner_price_by(sheet, sheet_len, hauls, tariff, tariff_len, set, area, area_len) })
+}
+
+/// `open_plan` on a sheet of distances by a tariff.
+pub fn open_plan_by(sheet: &[u8], tariff: Tariff, area: &mut [u8]) -> Answer<Written> {
+    let (hauls, tariff) = told(tariff);
+    let (sheet_len, tariff_len, area_len) = (sheet.len(), tariff.len(), area.len());
+    let (sheet, tariff, area) = (sheet.as_ptr(), tariff.as_ptr(), area.as_mut_ptr());
+    written(unsafe { raw::planner_open_plan_by(sheet, sheet_len, hauls, tariff, tariff_len, area, area_len) })
+}
+
+/// `limited_plan` on a sheet of distances by a tariff.
+pub fn limited_plan_by(sheet: &[u8], tariff: Tariff, k: usize, area: &mut [u8]) -> Answer<Written> {
+    let (hauls, tariff) = told(tariff);
+    let (sheet_len, tariff_len, area_len) = (sheet.len(), tariff.len(), area.len());
+    let (sheet, tariff, area) = (sheet.as_ptr(), tariff.as_ptr(), area.as_mut_ptr());
+    written(unsafe { raw::planner_limited_plan_by(sheet, sheet_len, hauls, tariff, tariff_len, k, area, area_len) })
+}
+
+/// The number that tells a call what the amounts of haul records are, and the tariff's bytes, which count for a given one alone.
+fn told(tariff: Tariff<'_>) -> (u8, &[u8]) {
+    match tariff {
+        Tariff::None => (0, &[]),
+        Tariff::House => (1, &[]),
+        Tariff::Given(bytes) => (2, bytes),
+    }
 }
 
 /// Bits 0 to 7: the refusal number, 0 where the call is accepted.

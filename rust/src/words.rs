@@ -1,10 +1,12 @@
-//! What the tool `sheet` says about a sheet: its table, a plan, or why the library refuses the call.
+//! What the tool `sheet` says about a sheet: its table, a plan, or why the library refuses the call. `tariffs` is about a tariff
+//! by itself.
 mod questions;
 pub mod refusal;
 mod tables;
+pub mod tariffs;
 
 use crate::format::MOST_AREA;
-use crate::{library, Answer};
+use crate::{bands, library, Answer, Counts, Tariff};
 use refusal::Given;
 
 /// Exit statuses. A defect is a refusal for which the tool does not find the fault.
@@ -12,11 +14,12 @@ pub const ACCEPTED: u8 = 0;
 pub const REFUSED: u8 = 1;
 pub const DEFECT: u8 = 3;
 
-/// The names of yards and farms by number; empty where they are not known.
+/// The names of yards and farms by number, and the file of a given tariff; empty where they are not known.
 #[derive(Clone, Debug, Default, PartialEq, Eq)]
 pub struct Names {
     pub yards: Vec<String>,
     pub farms: Vec<String>,
+    pub tariff: String,
 }
 
 impl Names {
@@ -26,6 +29,16 @@ impl Names {
 
     fn farm(&self, farm: usize) -> String {
         named("farm", farm, &self.farms)
+    }
+
+    /// What a list is by; nothing where haul amounts are hauls.
+    fn by(&self, tariff: Tariff) -> Option<String> {
+        match tariff {
+            Tariff::None => None,
+            Tariff::House => Some("by the house tariff".into()),
+            Tariff::Given(_) if self.tariff.is_empty() => Some("by a given tariff".into()),
+            Tariff::Given(_) => Some(format!("by the tariff {}", self.tariff)),
+        }
     }
 }
 
@@ -52,8 +65,8 @@ pub struct Said {
 }
 
 /// Calls the library and puts its answer in words.
-pub fn said(request: Request, sheet: &[u8], names: &Names) -> Said {
-    outcome(answer(request, sheet, names), sheet, &given(request), names)
+pub fn said(request: Request, sheet: &[u8], tariff: Tariff, names: &Names) -> Said {
+    outcome(answer(request, sheet, tariff, names), sheet, &given(request, tariff), names)
 }
 
 /// An accepted call's text, or why the call is refused.
@@ -65,28 +78,44 @@ pub fn outcome(answer: Answer<String>, sheet: &[u8], given: &Given, names: &Name
     }
 }
 
-fn answer(request: Request, sheet: &[u8], names: &Names) -> Answer<String> {
+fn answer(request: Request, sheet: &[u8], tariff: Tariff, names: &Names) -> Answer<String> {
     let mut area = [0; MOST_AREA];
+    let by = names.by(tariff);
     let (title, total, written) = match request {
         Request::Read => {
-            let counts = library::read(sheet)?;
-            return Ok(format!("accepted: yards {}, farms {}\n", counts.yards, counts.farms));
+            let counts = library::read_by(sheet, tariff)?;
+            let distances = by.map_or(String::new(), |by| format!(", distances {by}"));
+            return Ok(format!("accepted: {}{distances}\n", counted(counts)));
         }
-        Request::Show => return Ok(tables::sheet(sheet, library::read(sheet)?, names)),
-        Request::OpenPlan => ("Open plan".into(), "fees and hauls", library::open_plan(sheet, &mut area)?),
+        Request::Show => {
+            let counts = library::read_by(sheet, tariff)?;
+            return Ok(tables::sheet(sheet, counts, by.zip(bands::of(tariff)), names));
+        }
+        Request::OpenPlan => ("Open plan".into(), "fees and hauls", library::open_plan_by(sheet, tariff, &mut area)?),
         Request::LimitedPlan(k) => {
             let title = format!("Limited plan, k = {k}");
-            (title, "hauls alone", library::limited_plan(sheet, k, &mut area)?)
+            (title, "hauls alone", library::limited_plan_by(sheet, tariff, k, &mut area)?)
         }
-        Request::Price(set) => ("Price of a set".into(), "fees and hauls", library::price(sheet, set, &mut area)?),
+        Request::Price(set) => {
+            ("Price of a set".into(), "fees and hauls", library::price_by(sheet, tariff, set, &mut area)?)
+        }
     };
-    Ok(tables::plan(&title, total, &area[..written.bytes], names))
+    let (title, distances) = match by {
+        Some(by) => (format!("{title}, {by}"), Some(sheet)),
+        None => (title, None),
+    };
+    Ok(tables::plan(&title, total, &area[..written.bytes], distances, names))
 }
 
-fn given(request: Request) -> Given {
-    let lent = Given { area: Some(MOST_AREA), ..Given::default() };
+fn counted(counts: Counts) -> String {
+    format!("yards {}, farms {}", counts.yards, counts.farms)
+}
+
+fn given(request: Request, tariff: Tariff) -> Given {
+    let read = Given { tariff, ..Given::default() };
+    let lent = Given { area: Some(MOST_AREA), ..read };
     match request {
-        Request::Read | Request::Show => Given::default(),
+        Request::Read | Request::Show => read,
         Request::OpenPlan => lent,
         Request::LimitedPlan(k) => Given { k: Some(k), ..lent },
         Request::Price(set) => Given { set: Some(set), ..lent },

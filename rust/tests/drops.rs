@@ -3,11 +3,11 @@
 //! `cargo test --release --test drops -- --ignored --nocapture` searches for more, and says how rare they are.
 mod compare;
 
-use compare::{every_call, Name, Tally};
-use planner::format::{amount, HIGHEST_FEE, MOST_LOADS, RECORD, YARD};
+use compare::{every_call, every_call_by, Name, Tally};
+use planner::format::{amount, HAUL, HIGHEST_FEE, HIGHEST_HAUL, MOST_LOADS, RECORD, YARD};
 use planner::literal::{open_moves, Move};
 use planner::random::Random;
-use planner::samples::{any_loads, kept, kept_moves, manhattan, plane, put_loads, Sample};
+use planner::samples::{any_loads, kept, kept_moves, manhattan, one_rate, plane, put_loads, Beside, Sample};
 use planner::table::Table;
 
 const KEPT: usize = 13;
@@ -58,6 +58,29 @@ fn changed_sheets_agree(change: fn(&mut Random, &Sample) -> Sample, least_drops:
     println!("{dropping} open plans that drop a yard");
     assert_eq!(tally.count(Name::Read, 0), KEPT as u64 * CHANGED, "sheets that are accepted");
     assert!(dropping >= least_drops, "{dropping} open plans that drop a yard");
+}
+
+/// Fees and hauls times the same number, the hauls from a tariff of one rate: the search makes the same moves.
+#[test]
+fn kept_sheets_by_a_tariff_agree() {
+    let mut tally = Tally::default();
+    for (seed, Sample { name, mut sheet, .. }) in (0..).zip(kept().expect("sheets/drops")) {
+        let mut random = Random::new(seed);
+        let hauls = sheet.chunks(RECORD).filter(|record| record[0] == HAUL);
+        let farthest = hauls.map(amount).max().expect("a haul");
+        let tariff = one_rate(&mut random, (HIGHEST_HAUL / farthest).min(1 + seed as u32));
+        let yards = sheet.chunks(RECORD).take_while(|record| record[0] == YARD).count();
+        raise_fees(&mut sheet[..RECORD * yards], tariff.haul(1) as u32);
+        assert_eq!(
+            in_lines(&open_moves(&tariff.priced(&sheet))),
+            kept_moves(&name).expect("a file of moves"),
+            "{name}"
+        );
+        let sample = Sample { name: format!("{name} by a tariff"), sheet, reading: None };
+        every_call_by(&Beside { tariff, sample }, seed, &mut tally);
+    }
+    tally.print();
+    assert_eq!(tally.count(Name::Read, 0), KEPT as u64, "kept sheets that are accepted by a tariff");
 }
 
 /// One to three fees up or down by a twentieth or less.

@@ -1,8 +1,9 @@
-//! The example sheets: each is what its table makes, and the tool and the library say of it what stands beside it.
+//! The example sheets: each is what its table makes, and the tool and the library say of it what stands beside it. So is the
+//! tariff of the example of distances.
 use planner::format::{amount, FARM, MOST_AREA, MOVES, OPEN, RECORD, TOTAL};
 use planner::table::Table;
-use planner::words::{said, Names, Request, ACCEPTED};
-use planner::{csv, library};
+use planner::words::{said, tariffs, Names, Request, ACCEPTED};
+use planner::{bands, csv, library, Tariff};
 use std::fs;
 use std::path::{Path, PathBuf};
 
@@ -10,6 +11,11 @@ const EXAMPLES: [&str; 3] = ["s", "boerde", "loads"];
 const EARTH_RADIUS: f64 = 6371.0;
 const ROAD_FACTOR: f64 = 1.3;
 const CENTS_FOR_A_KILOMETRE: f64 = 9000.0;
+const HUNDREDS_OF_METRES: f64 = 10.0;
+
+/// The example of distances and its tariff, as the command line names it.
+const DISTANCES: &str = "distances/boerde";
+const HAULIER: &str = "sheets/distances/haulier.tariff";
 
 /// The places of the example with loads along its road, in kilometres, and the price of a load for each.
 const YARDS_ALONG_ROAD: [u32; 4] = [4, 18, 30, 44];
@@ -66,7 +72,7 @@ fn each_plan_is_the_librarys() {
 fn each_plan_in_words_is_what_the_tool_prints() {
     for example in EXAMPLES {
         let (_, names, sheet) = typed(example);
-        let said = said(Request::OpenPlan, &sheet, &names);
+        let said = said(Request::OpenPlan, &sheet, Tariff::None, &names);
         assert_eq!((said.status, said.text), (ACCEPTED, text(&format!("{example}.txt"))), "{example}");
     }
 }
@@ -115,16 +121,95 @@ fn fee(yard: &Place) -> u32 {
     }
 }
 
-#[test]
-fn the_table_of_the_boerde_comes_from_its_places() {
+/// The same in hundreds of metres, for a table of distances.
+fn road(farm: &Place, yard: &Place) -> u32 {
+    (distance(farm, yard) * ROAD_FACTOR * HUNDREDS_OF_METRES).ceil() as u32
+}
+
+/// An example's fees, names and amounts are those of the places.
+fn assert_from_places(example: &str, amount: fn(&Place, &Place) -> u32) {
     let places: Vec<Place> = text("boerde-places.csv").lines().skip(1).map(place).collect();
     let (farms, yards): (Vec<&Place>, Vec<&Place>) = places.iter().partition(|place| place.kind == "farm");
-    let hauls = |farm: &&Place| yards.iter().map(|yard| haul(farm, yard)).collect();
-    let (table, names, _) = typed("boerde");
+    let amounts = |farm: &&Place| yards.iter().map(|yard| amount(farm, yard)).collect();
+    let (table, names, _) = typed(example);
     assert_eq!(table.fees, yards.iter().map(|yard| fee(yard)).collect::<Vec<_>>());
-    assert_eq!(table.hauls, farms.iter().map(hauls).collect::<Vec<Vec<u32>>>());
+    assert_eq!(table.hauls, farms.iter().map(amounts).collect::<Vec<Vec<u32>>>());
     assert_eq!(names.yards, yards.iter().map(|yard| yard.name.clone()).collect::<Vec<_>>());
     assert_eq!(names.farms, farms.iter().map(|farm| farm.name.clone()).collect::<Vec<_>>());
+}
+
+#[test]
+fn the_tables_of_the_boerde_come_from_its_places() {
+    assert_from_places("boerde", haul);
+    assert_from_places(DISTANCES, road);
+}
+
+/// The bytes of the haulier's tariff.
+fn haulier() -> Vec<u8> {
+    fs::read(file("distances/haulier.tariff")).unwrap()
+}
+
+#[test]
+fn the_sheet_of_distances_and_its_tariff_are_what_their_tables_make() {
+    let (table, _, sheet) = typed(DISTANCES);
+    assert!(table.sheet() == sheet);
+    assert_eq!(csv::read(text("distances/boerde.csv").as_bytes()).unwrap().amounts, csv::Amounts::Distances);
+    assert_eq!(bands::bytes(&csv::read_tariff(text("distances/haulier.csv").as_bytes()).unwrap()), haulier());
+}
+
+#[test]
+fn the_plans_by_tariffs_and_the_tariff_in_words_are_what_the_tool_prints() {
+    let (_, names, sheet) = typed(DISTANCES);
+    let names = Names { tariff: HAULIER.into(), ..names };
+    let haulier = haulier();
+    let cases = [
+        ("distances/boerde-by-house.txt", said(Request::OpenPlan, &sheet, Tariff::House, &names)),
+        ("distances/boerde-by-haulier.txt", said(Request::OpenPlan, &sheet, Tariff::Given(&haulier), &names)),
+        ("distances/haulier.txt", tariffs::shown(Tariff::Given(&haulier), &names)),
+    ];
+    for (name, said) in cases {
+        assert_eq!((said.status, said.text), (ACCEPTED, text(name)), "{name}");
+    }
+}
+
+#[test]
+fn the_tool_shows_distances_and_prices_every_list_by_the_tariff() {
+    let (_, names, sheet) = typed(DISTANCES);
+    let cases = [
+        (Request::Read, "accepted: yards 10, farms 28, distances by the house tariff\n"),
+        (Request::Show, "Sheet of distances, by the house tariff: yards 10, farms 28\n"),
+        (Request::Show, "\n   5                      2000                    4000                              15 "),
+        (Request::Show, "\nfarm                    loads  distance to yard, hundreds of metres:    0    1    2 "),
+        (Request::Show, "\n   0  Barleben             12                                         103  227  236 "),
+        (Request::LimitedPlan(1), "Limited plan, k = 1, by the house tariff\n"),
+        (
+            Request::LimitedPlan(1),
+            "   0  Barleben             12             9  Wanzleben                           258 ",
+        ),
+        (Request::LimitedPlan(1), "hauls               2910684\ntotal, hauls alone  2910684\n"),
+        (Request::Price(0b1), "   0  Barleben             12             0  Magdeburg                           103 "),
+        (Request::Price(0b1), "                    4102                     49224\n"),
+    ];
+    for (request, part) in cases {
+        let said = said(request, &sheet, Tariff::House, &names);
+        assert!(said.status == ACCEPTED && said.text.contains(part), "{part}, in: {}", said.text);
+    }
+}
+
+/// The records of open yards in the open plan of the sheet of distances.
+fn leased(tariff: Tariff) -> String {
+    let (_, _, sheet) = typed(DISTANCES);
+    let mut area = [0; MOST_AREA];
+    let written = library::open_plan_by(&sheet, tariff, &mut area).unwrap();
+    let lines = lines(&area[..written.bytes]);
+    lines.lines().filter(|line| line.starts_with("open ")).collect::<Vec<_>>().join(", ")
+}
+
+#[test]
+fn by_the_haulier_more_yards_are_leased_than_by_the_house_tariff() {
+    assert_eq!(leased(Tariff::House), "open 6 300000, open 9 200000");
+    let yards = "open 1 400000, open 3 300000, open 4 300000, open 6 300000, open 9 200000";
+    assert_eq!(leased(Tariff::Given(&haulier())), yards);
 }
 
 #[test]
@@ -158,7 +243,7 @@ fn the_tool_shows_loads_and_counts_them_in_every_sum() {
         ),
     ];
     for (request, part) in cases {
-        let said = said(request, &sheet, &names);
+        let said = said(request, &sheet, Tariff::None, &names);
         assert!(said.status == ACCEPTED && said.text.contains(part), "{part}, in: {}", said.text);
     }
 }
@@ -166,6 +251,6 @@ fn the_tool_shows_loads_and_counts_them_in_every_sum() {
 #[test]
 fn loads_of_one_are_left_out() {
     let (table, names, _) = typed("s");
-    let said = said(Request::OpenPlan, &Table { loads: vec![1, 0, 1], ..table }.sheet(), &names);
+    let said = said(Request::OpenPlan, &Table { loads: vec![1, 0, 1], ..table }.sheet(), Tariff::None, &names);
     assert_eq!((said.status, said.text), (ACCEPTED, text("s.txt")));
 }

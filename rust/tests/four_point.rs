@@ -1,7 +1,10 @@
 //! Question 6 by itself: reading against its four loops, on sheets of many shapes that keep the rule narrowly or break it.
-//! The rule is about one load (paper 2 of document 02): loads change no answer.
+//! The rule is about one load (paper 2 of document 02): loads change no answer. By a tariff it is about the priced hauls, and
+//! distances that keep it give hauls that keep it (paper 3).
+use planner::calls::ALL;
 use planner::format::{HIGHEST_HAUL, MOST_FARMS, MOST_LOADS, MOST_YARDS};
 use planner::random::Random;
+use planner::samples::TariffSample;
 use planner::table::Table;
 use planner::{four_loops, library, samples, Answer, Counts};
 
@@ -13,6 +16,15 @@ const LEAST: u64 = 4_000;
 const TO_THE_CENT: u64 = 600;
 /// For at least so many of each with loads, the rule on hauls times loads would answer otherwise.
 const LEAST_OTHERWISE: u64 = 600;
+
+/// Sheets of distances, each by so many tariffs and by the house one.
+const DISTANCES: u64 = 1_000;
+const TARIFFS: u64 = 4;
+/// At least so many readings are accepted where the distances keep the rule, and of them so many by a tariff of more than one rate.
+const LEAST_KEPT: u64 = 5_000;
+const LEAST_BENT: u64 = 3_000;
+/// At least so many are accepted where the distances break the rule, and as many refused by 6.
+const LEAST_OF_BROKEN: u64 = 600;
 
 #[derive(Default)]
 struct Seen {
@@ -119,4 +131,80 @@ fn times_loads(mut hauls: four_loops::Hauls, loads: &[u8]) -> four_loops::Hauls 
         hauls.iter_mut().for_each(|haul| *haul *= u32::from(loads));
     }
     hauls
+}
+
+/// What readings of distances by tariffs answered.
+#[derive(Default, Debug)]
+struct ByTariffs {
+    kept: u64,
+    only_hauls_keep: u64,
+    broken: u64,
+    too_high: u64,
+    bent: u64,
+}
+
+#[test]
+fn distances_that_keep_the_rule_give_hauls_that_keep_it() {
+    let mut seen = ByTariffs::default();
+    for seed in 0..DISTANCES {
+        let mut random = Random::new(seed);
+        let mut tariffs: Vec<TariffSample> = (0..TARIFFS).map(|_| samples::tariff(&mut random)).collect();
+        tariffs.push(samples::house_tariff());
+        let (yards, farms) = shape(&mut random, false);
+        for tariff in tariffs {
+            let span = random.between(1, u64::from(tariff.farthest() / 2).max(1)) as u32;
+            let mut table = narrow_distances(&mut random, yards, farms, span);
+            read_distances(&tariff, &table, seed, &mut seen);
+            shift_one(&mut random, &mut table);
+            read_distances(&tariff, &table, seed, &mut seen);
+        }
+    }
+    println!("{seen:?}");
+    assert!(seen.kept >= LEAST_KEPT && seen.bent >= LEAST_BENT);
+    assert!(seen.only_hauls_keep >= LEAST_OF_BROKEN && seen.broken >= LEAST_OF_BROKEN);
+}
+
+/// Distances of which three often sum up to the fourth: on a grid, or lowered until the rule holds.
+fn narrow_distances(random: &mut Random, yards: usize, farms: usize, span: u32) -> Table {
+    match random.between(0, 1) {
+        0 => samples::manhattan(random, yards, farms, span, 9),
+        _ => {
+            let mut table = samples::small_amounts(random, yards, farms, 2 * span);
+            samples::repair(&mut table);
+            table
+        }
+    }
+}
+
+/// Reads by a tariff, against the four loops on the priced hauls; distances that keep the rule are never refused by 6.
+fn read_distances(tariff: &TariffSample, table: &Table, seed: u64, seen: &mut ByTariffs) {
+    let counts = Counts { yards: table.fees.len(), farms: table.hauls.len() };
+    let sheet = table.sheet();
+    let hauls = four_loops::hauls_of(&tariff.priced(&sheet), counts.yards);
+    let farthest = table.hauls.iter().flatten().copied().max().unwrap_or(0);
+    let distances_keep = four_loops::holds(&table.hauls, counts.yards);
+    let expected = match four_loops::holds(&hauls, counts.yards) {
+        _ if farthest > tariff.last_end() => Err(13),
+        _ if farthest > tariff.farthest() => Err(5),
+        true => Ok(counts),
+        false => Err(6),
+    };
+    for calls in ALL {
+        let answer = (calls.read_by)(&sheet, tariff.tariff());
+        assert_eq!(answer, expected, "{}: seed {seed}, {counts:?}, {}", calls.name, tariff.name);
+    }
+    assert!(
+        expected != Err(6) || !distances_keep,
+        "seed {seed}, {counts:?}, {}: hauls alone break the rule",
+        tariff.name
+    );
+    match expected {
+        Ok(_) if distances_keep => {
+            seen.kept += 1;
+            seen.bent += u64::from(tariff.haul(farthest) < tariff.haul(1) * u64::from(farthest));
+        }
+        Ok(_) => seen.only_hauls_keep += 1,
+        Err(6) => seen.broken += 1,
+        Err(_) => seen.too_high += 1,
+    }
 }

@@ -4,10 +4,10 @@
 //! each other with its own seeds. The counts printed are those of all rounds; the least counts grow with the rounds.
 mod compare;
 
-use compare::{every_call, Name, Tally};
+use compare::{every_call, every_call_by, Name, Tally};
 use planner::format::{MOST_FARMS, MOST_YARDS};
 use planner::random::Random;
-use planner::samples::{self, Sample};
+use planner::samples::{self, Beside, Sample};
 
 /// Sheets of each kind in a round.
 const SMALL_ACCEPTED: usize = 700;
@@ -27,6 +27,21 @@ const MEDIUM: usize = 40;
 const FULL: usize = 4;
 const FULL_TIED: usize = 4;
 
+/// Sheets beside a tariff of each kind in a round.
+const ACCEPTED_BY: usize = 360;
+const LOOSE_BY: usize = 560;
+const TO_THE_CENT_BY: usize = 60;
+const TOO_FAR_BY: usize = 50;
+/// Beside a fault of each of 10, 5 and 6.
+const TOO_FAR_BESIDE: usize = 30;
+const FEE_TOO_HIGH_BY: usize = 20;
+const FAULTY_BY: usize = 120;
+/// For each tariff that is broken in some way, rises, or both.
+const REFUSED_BY: u64 = 8;
+const DAMAGED_BY: usize = 200;
+const MEDIUM_BY: usize = 12;
+const FULL_BY: usize = 4;
+
 /// Rounds compare at least this many calls each on average, and each answer that a call can give occurs so often for it.
 const LEAST_CALLS: u64 = 100_000;
 const LEAST_OF_READING: u64 = 50;
@@ -42,7 +57,12 @@ const LEAST_OTHER_YARDS: u64 = 150;
 /// Refusals with 10 of each call where it is the only fault, beside question 5, and beside question 6.
 const LEAST_WITH_10: u64 = 40;
 
-/// The answers that each call can give, 0 for accepted.
+/// By tariffs: each answer of each call, each refusal beside another, and sheets or distances of each kind.
+const LEAST_BY: u64 = 20;
+/// Accepted sheets for each count of bands.
+const LEAST_OF_BANDS: u64 = 15;
+
+/// The answers that each call can give, 0 for accepted; by a tariff 11, 12 and 13 too.
 const ANSWERS: [(Name, &[u8]); 4] = [
     (Name::Read, &[0, 1, 2, 3, 4, 10, 5, 6]),
     (Name::Price, &[0, 1, 2, 3, 4, 10, 5, 6, 8, 9]),
@@ -50,25 +70,51 @@ const ANSWERS: [(Name, &[u8]); 4] = [
     (Name::LimitedPlan, &[0, 1, 2, 3, 4, 10, 5, 6, 7, 9]),
 ];
 
-#[test]
-fn the_library_agrees_with_the_other_implementations() {
+fn rounds() -> u64 {
     let rounds = std::env::var("PLANNER_ROUNDS").map_or(1, |text| text.parse().expect("PLANNER_ROUNDS is a number"));
     assert!(rounds > 0, "PLANNER_ROUNDS is at least 1");
+    rounds
+}
+
+#[test]
+fn the_library_agrees_with_the_other_implementations() {
     let mut tally = Tally::default();
-    for round in 0..rounds {
+    for round in 0..rounds() {
         for (seed, sample) in sheets(round) {
             every_call(&sample, seed, &mut tally);
         }
     }
     tally.print();
-    enough(&tally, rounds);
+    enough(&tally, rounds());
 }
 
-type Maker = fn(&mut Random) -> Sample;
+#[test]
+fn the_library_agrees_with_the_other_implementations_by_tariffs() {
+    let mut tally = Tally::default();
+    for round in 0..rounds() {
+        for (seed, beside) in sheets_by_tariffs(round) {
+            every_call_by(&beside, seed, &mut tally);
+        }
+    }
+    tally.print();
+    enough_by_tariffs(&tally, rounds());
+}
+
+type Maker<T> = fn(&mut Random) -> T;
+
+/// What so many runs of each maker give in a round, each with its seed.
+fn drawn<T>(round: u64, makers: Vec<(usize, Maker<T>)>) -> Vec<(u64, T)> {
+    let made = makers.into_iter().flat_map(|(count, make)| std::iter::repeat_n(make, count));
+    let seeded = made.enumerate().map(|(number, make)| {
+        let seed = round << 32 | number as u64;
+        (seed, make(&mut Random::new(seed)))
+    });
+    seeded.collect()
+}
 
 /// The sheets of a round, each with the seed that draws it and its calls.
 fn sheets(round: u64) -> Vec<(u64, Sample)> {
-    let mut makers: Vec<(usize, Maker)> = vec![
+    let mut makers: Vec<(usize, Maker<Sample>)> = vec![
         (SMALL_ACCEPTED, |random| shaped(random, samples::accepted)),
         (UNREPAIRED, |random| shaped(random, samples::unrepaired)),
         (DAMAGED, |random| shaped(random, samples::damaged)),
@@ -78,24 +124,66 @@ fn sheets(round: u64) -> Vec<(u64, Sample)> {
         (MEDIUM, medium),
         (FULL, |random| samples::accepted(random, MOST_YARDS, MOST_FARMS)),
     ];
-    makers.extend([(TIGHT, tight as Maker), (BROKEN, broken)]);
-    let faults: [Maker; 6] = [fault::<1>, fault::<2>, fault::<3>, fault::<4>, fault::<10>, fault::<5>];
+    makers.extend([(TIGHT, tight as Maker<Sample>), (BROKEN, broken)]);
+    let faults: [Maker<Sample>; 6] = [fault::<1>, fault::<2>, fault::<3>, fault::<4>, fault::<10>, fault::<5>];
     makers.extend(faults.map(|make| (FAULTY, make)));
-    let beside: [Maker; 6] = [beside::<1>, beside::<2>, beside::<3>, beside::<4>, beside::<5>, beside::<6>];
+    let beside: [Maker<Sample>; 6] = [beside::<1>, beside::<2>, beside::<3>, beside::<4>, beside::<5>, beside::<6>];
     makers.extend(beside.map(|make| (BESIDE_10, make)));
-    makers.extend([(SMALL_TIED, tied as Maker), (FULL_TIED, |random| samples::tied(random, MOST_YARDS, MOST_FARMS))]);
-    let made = makers.into_iter().flat_map(|(count, make)| std::iter::repeat_n(make, count));
-    let drawn = made.enumerate().map(|(number, make)| {
-        let seed = round << 32 | number as u64;
-        (seed, make(&mut Random::new(seed)))
-    });
-    drawn.chain(samples::named().into_iter().map(|sample| (round << 32, sample))).collect()
+    makers.extend([
+        (SMALL_TIED, tied as Maker<Sample>),
+        (FULL_TIED, |random| samples::tied(random, MOST_YARDS, MOST_FARMS)),
+    ]);
+    let mut list = drawn(round, makers);
+    list.extend(samples::named().into_iter().map(|sample| (round << 32, sample)));
+    list
 }
 
-/// Gives the maker a small shape, one yard or one farm often among them.
-fn shaped(random: &mut Random, make: fn(&mut Random, usize, usize) -> Sample) -> Sample {
-    let (yards, farms) = (random.between(1, 7) as usize, random.between(1, 9) as usize);
+/// The sheets beside a tariff of a round, each with its seed.
+fn sheets_by_tariffs(round: u64) -> Vec<(u64, Beside)> {
+    let makers: Vec<(usize, Maker<Beside>)> = vec![
+        (ACCEPTED_BY, |random| shaped(random, samples::accepted_by)),
+        (LOOSE_BY, |random| shaped(random, samples::loose_by)),
+        (TO_THE_CENT_BY, |random| shaped(random, samples::to_the_cent_by)),
+        (TOO_FAR_BY, |random| shaped(random, samples::too_far_by)),
+        (TOO_FAR_BESIDE, too_far_beside::<10>),
+        (TOO_FAR_BESIDE, too_far_beside::<5>),
+        (TOO_FAR_BESIDE, too_far_beside::<6>),
+        (FEE_TOO_HIGH_BY, |random| shaped(random, samples::fee_too_high_by)),
+        (FAULTY_BY, |random| shaped(random, samples::faulty_by)),
+        (DAMAGED_BY, |random| shaped(random, samples::damaged_by)),
+        (MEDIUM_BY, |random| samples::accepted_by(random, 17, 24)),
+        (FULL_BY, |random| samples::accepted_by(random, MOST_YARDS, MOST_FARMS)),
+    ];
+    let mut list = drawn(round, makers);
+    list.extend((0..REFUSED_BY).flat_map(|number| refused_by(round << 32 | number)));
+    list
+}
+
+/// Every refused tariff beside a sheet.
+fn refused_by(seed: u64) -> Vec<(u64, Beside)> {
+    let mut random = Random::new(seed);
+    let tariffs = samples::refused_tariffs(&mut random);
+    let beside = |tariff| {
+        let (yards, farms) = small(&mut random);
+        (seed, samples::refused_by(&mut random, tariff, yards, farms))
+    };
+    tariffs.into_iter().map(beside).collect()
+}
+
+fn too_far_beside<const QUESTION: u8>(random: &mut Random) -> Beside {
+    let (yards, farms) = (random.between(2, 7) as usize, random.between(3, 9) as usize);
+    samples::too_far_beside(random, QUESTION, yards, farms)
+}
+
+/// Gives the maker a small shape.
+fn shaped<T>(random: &mut Random, make: fn(&mut Random, usize, usize) -> T) -> T {
+    let (yards, farms) = small(random);
     make(random, yards, farms)
+}
+
+/// One yard or one farm often among them.
+fn small(random: &mut Random) -> (usize, usize) {
+    (random.between(1, 7) as usize, random.between(1, 9) as usize)
 }
 
 fn medium(random: &mut Random) -> Sample {
@@ -179,4 +267,23 @@ fn enough(tally: &Tally, rounds: u64) {
     enough_loads(tally, rounds);
     assert!(tally.whole_stretches >= rounds * LEAST_STRETCHES, "{} whole stretches", tally.whole_stretches);
     assert!(tally.empty_stretches >= rounds * LEAST_STRETCHES, "{} empty stretches", tally.empty_stretches);
+}
+
+/// Every answer of every call by a tariff occurred often enough, beside what stands behind it too.
+fn enough_by_tariffs(tally: &Tally, rounds: u64) {
+    for (name, answers) in ANSWERS {
+        for &answer in answers.iter().chain(&[11, 12, 13]) {
+            let count = tally.count(name, answer);
+            assert!(count >= rounds * LEAST_BY, "{name:?} by a tariff gave answer {answer} {count} times only");
+        }
+    }
+    for (text, counts) in tally.tariffs.refusals() {
+        assert!(counts.iter().all(|&count| count >= rounds * LEAST_BY), "refused with {text}: {counts:?}");
+    }
+    let bands = tally.tariffs.bands();
+    assert!(bands.iter().all(|&count| count >= rounds * LEAST_OF_BANDS), "accepted by count of bands: {bands:?}");
+    for (text, count) in tally.tariffs.facts() {
+        assert!(count >= rounds * LEAST_BY, "{text}: {count} only");
+    }
+    assert_eq!(tally.tariffs.only_hauls_break_rule, 0, "refused by 6 where the distances keep the rule");
 }

@@ -1,5 +1,5 @@
-/* The planner from C: reads document 01's sheet S, prices {0, 2}, and makes both plans; and open plans at the highest fee and haul and with
- * loads. */
+/* The planner from C: reads document 01's sheet S, prices {0, 2}, and makes both plans; open plans at the highest fee and haul and with
+ * loads; and the same calls by the house tariff and by a given one. */
 #include "planner.h"
 
 #include <stdio.h>
@@ -24,6 +24,20 @@ static const uint8_t ten_loads[32] = {
 
 /* one yard and a farm of 21 loads */
 static const uint8_t too_many_loads[16] = {0x59, 0, 0, 0, 1, 0, 0, 0, 0x48, 0, 0, 21, 2, 0, 0, 0};
+
+/* fees 100 and 300, distances 120 and 250 of farm 0, 450 and 100 of farm 1; by the house tariff hauls 4,680 and 9,100, 14,700 and 4,000 */
+static const uint8_t distances[48] = {
+    0x59, 0, 0, 0, 100, 0, 0, 0, 0x59, 1, 0, 0, 44, 1, 0, 0,
+    0x48, 0, 0, 0, 120, 0, 0, 0, 0x48, 1, 0, 0, 250, 0, 0, 0,
+    0x48, 0, 1, 0, 194, 1, 0, 0, 0x48, 1, 1, 0, 100, 0, 0, 0,
+};
+
+/* up to 200 at 10 cents, then up to 450 at 1 cent: hauls 1,200 and 2,050, 2,250 and 1,000 */
+static const uint8_t tariff[16] = {0x42, 0, 0, 0, 200, 0, 10, 0, 0x42, 1, 200, 0, 194, 1, 1, 0};
+
+/* the same up to 449 only, and with a rate of 11 cents in its second band */
+static const uint8_t shorter_tariff[16] = {0x42, 0, 0, 0, 200, 0, 10, 0, 0x42, 1, 200, 0, 193, 1, 1, 0};
+static const uint8_t rising_tariff[16] = {0x42, 0, 0, 0, 200, 0, 10, 0, 0x42, 1, 200, 0, 194, 1, 11, 0};
 
 static uint8_t area[PLANNER_MOST_AREA];
 
@@ -81,6 +95,23 @@ static void show_area_after_refusal(void)
     printf("area: %s\n", memcmp(before, area, sizeof area) == 0 ? "as it was" : "changed");
 }
 
+/* The distances by the house tariff, whose bytes are not handed over, and by a given tariff. */
+static void show_by_tariffs(void)
+{
+    const size_t len = sizeof distances;
+    const uint8_t house = PLANNER_HOUSE_TARIFF, given = PLANNER_GIVEN_TARIFF;
+    show_counts("read by the house tariff", planner_read_by(distances, len, house, tariff, 0));
+    show("open plan by the house tariff", planner_open_plan_by(distances, len, house, tariff, 0, area, sizeof area));
+    show("limited plan by the house tariff, k = 1", planner_limited_plan_by(distances, len, house, tariff, 0, 1, area, sizeof area));
+    show("pricing {0} by the given tariff", planner_price_by(distances, len, given, tariff, sizeof tariff, 1u << 0, area, sizeof area));
+    show("open plan by the given tariff", planner_open_plan_by(distances, len, given, tariff, sizeof tariff, area, sizeof area));
+    show("open plan, distances as hauls", planner_open_plan_by(distances, len, PLANNER_HAULS, tariff, 0, area, sizeof area));
+    show_counts("read, half a tariff record", planner_read_by(distances, len, given, tariff, 4));
+    show_counts("read, a rate too high", planner_read_by(distances, len, given, rising_tariff, sizeof rising_tariff));
+    show_counts("read, a distance too far", planner_read_by(distances, len, given, shorter_tariff, sizeof shorter_tariff));
+    show("open plan, a distance too far", planner_open_plan_by(distances, len, 255, shorter_tariff, sizeof shorter_tariff, area, sizeof area));
+}
+
 int main(void)
 {
     show_counts("read", planner_read(sheet, sizeof sheet));
@@ -96,5 +127,6 @@ int main(void)
     show("open plan, dearest sheet", planner_open_plan(dearest, sizeof dearest, area, sizeof area));
     show("open plan, ten loads", planner_open_plan(ten_loads, sizeof ten_loads, area, sizeof area));
     show_area_after_refusal();
+    show_by_tariffs();
     return 0;
 }

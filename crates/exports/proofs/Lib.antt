@@ -1,2 +1,3 @@
--- NumberLaws: what a number says is what the call answered.
+-- NumberLaws: what a number says is what the call answered. NumberByLaws: the same of the calls by a tariff.
 pub mod NumberLaws
+pub mod NumberByLaws

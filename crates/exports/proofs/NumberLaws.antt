@@ -9,7 +9,7 @@ use Rattle.model.specs.Sets.{member}
 use Rattle.model.specs.Instance.{Instance, totalCost}
 use Rattle.model.specs.Plans.{openStart, openSearch, limitedStart, limitedSearch}
 use Rattle.model.proofs.CountLaws.{count-le}
-use Rattle.questions.specs.Answers.{Answer, accepted, refused, ask, after}
+use Rattle.model.specs.Answers.{Answer, accepted, refused, ask, after}
 use Rattle.questions.specs.Sheet.{yards, farmByte, instanceOf}
 use Rattle.questions.specs.Reading.{Counts, counts, reading}
 use Rattle.questions.proofs.ReadingLaws.{refused-by}
@@ -24,7 +24,7 @@ use Rattle.search.specs.Planning.{openPlan, limitedPlan, question7, openPlannin
 use Rattle.price.proofs.OfPlanLaws.{PlanOf, set-read-off, priced-set}
 use Rattle.search.proofs.PlanningLaws.{open-small, limited-small}
 use Rattle.search.proofs.PromiseLaws.{open-plan-of, limited-plan-of}
-use Rattle.exports.specs.Numbers.{countsNumber, resultNumber, refusal, yardsRead, farmsRead, bytesWritten, movesMade, OfWritten, KeepsBits}
+use Rattle.exports.specs.Numbers.{countsNumber, resultNumber, refusal, yardsRead, farmsRead, bytesWritten, movesMade, OfWritten, KeepsBits, CountsKeepBits}
 
 -- ---- what a number of pricing or of a plan says
 
@@ -35,7 +35,7 @@ Said (accepted r) =
     × (movesMade (resultNumber (accepted r)) ≡ r .moves)
 Said (refused k) = (refusal (resultNumber (refused k)) ≡ k) × (1 ≤ k)
 
-said : (a : Answer Result) → KeepsBits a → Said a
+pub said : (a : Answer Result) → KeepsBits a → Said a
 unfolding refusal bytesWritten movesMade
 said (accepted r) (few, small) = (omega arith, omega arith, omega arith)
 said (refused k) (some, small) = (omega arith, some)
@@ -43,6 +43,13 @@ said (refused k) (some, small) = (omega arith, some)
 -- ---- reading
 
 module _ (s : List ℕ) where
+  pub counts-within : CountsKeepBits (reading s)
+  counts-within = go (reading s) refl
+    where
+      go : (r : Answer Counts) → reading s ≡ r → CountsKeepBits r
+      go (accepted c) e = let f = accepts s (c .yards) (c .farms) e .has in (omega (arith, f .few-yards), omega (arith, f .few-farms))
+      go (refused k) e = let l = refused-by s k e in (l .0, omega (arith, l .1))
+
   -- off the number of an accepted reading: no refusal, m and n
   pub counts-said : (m n : ℕ) → reading s ≡ accepted (counts m n) → (refusal (countsNumber (reading s)) ≡ 0)
       × (yardsRead (countsNumber (reading s)) ≡ m) × (farmsRead (countsNumber (reading s)) ≡ n)
@@ -140,7 +147,7 @@ module _ (r : ℕ) (area : List ℕ) (P : ℕ → Type 0) where
 -- ---- and is used: what is promised by the number of an accepted call holds of its plan's own set
 
 module _ (outcome : Answer Plan) (p : Plan) (e : outcome ≡ accepted p) (bits : KeepsBits (answer outcome)) (area : List ℕ) (P : ℕ → Type 0) where
-  written-of : (set : ℕ) → PlanOf set p → OfWritten (resultNumber (answer outcome)) (areaAfter outcome area) P → P set
+  pub written-of : (set : ℕ) → PlanOf set p → OfWritten (resultNumber (answer outcome)) (areaAfter outcome area) P → P set
   unfolding answer
   written-of set f h =
       let is : answer outcome ≡ accepted (result (length (p .bytes)) (p .moves)) = ap answer e in

@@ -1,9 +1,13 @@
 -- The answers of the exported calls as numbers of 64 bits, and how a caller reads them again.
 use Prim.Native.Nat.{ℕ, _+_, _*_, _/_, _%_, _^_, _≤_, _<_}
 use mathlib.Core.Path.{_≡_}
+use mathlib.Core.Bool.{cond}
 use mathlib.Core.List.{List}
-use Rattle.questions.specs.Answers.{Answer, accepted, refused}
+use lib.Dec.{eqb}
+use Rattle.model.specs.Answers.{Answer, accepted, refused}
 use Rattle.questions.specs.Reading.{Counts}
+use Rattle.tariff.specs.declared.TariffChoice.{TariffChoice}
+use Rattle.tariff.specs.declared.TariffChoice.the-variants.{NoTariff, HouseTariff, GivenTariff}
 use Rattle.price.specs.Plan.{planSet}
 use Rattle.price.specs.Pricing.{Result}
 
@@ -16,6 +20,11 @@ countsNumber (refused k) = k
 abbrev pub resultNumber : Answer Result → ℕ
 resultNumber (accepted r) = r .bytes * 2 ^ 8 + r .moves * 2 ^ 32
 resultNumber (refused k) = k
+
+-- What a call by a tariff is told: 0, hauls as written; 1, distances by the house tariff; any other number, distances by the tariff that is
+-- handed over.
+unfoldable pub choiceOf : ℕ → TariffChoice
+choiceOf hauls = cond (eqb hauls 0) NoTariff (cond (eqb hauls 1) HouseTariff GivenTariff)
 
 -- ---- what a caller reads off a number
 
@@ -45,3 +54,8 @@ OfWritten r area P = refusal r ≡ 0 → P (planSet area (bytesWritten r))
 abbrev pub KeepsBits : Answer Result → Type 0
 KeepsBits (accepted r) = (r .bytes < 2 ^ 24) × (r .moves < 2 ^ 32)
 KeepsBits (refused k) = (1 ≤ k) × (k < 2 ^ 8)
+
+-- and the private `counts_number`: each count has eight bits, and so has a refusal number, which is not 0
+abbrev pub CountsKeepBits : Answer Counts → Type 0
+CountsKeepBits (accepted c) = (c .yards < 2 ^ 8) × (c .farms < 2 ^ 8)
+CountsKeepBits (refused k) = (1 ≤ k) × (k < 2 ^ 8)

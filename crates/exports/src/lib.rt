@@ -1,17 +1,24 @@
 // The calls of the planner for Rust and C, as `include/planner.h` declares them.
 //
-// Each hands its arguments on to `sheet`, `price` or `search` and gives the answer as one number: bits 0 to 7 the refusal number,
+// Each hands its arguments on to `sheet`, `distances`, `price` or `search` and gives the answer as one number: bits 0 to 7 the refusal number,
 // 0 where the call is accepted, and above them what the call returns. A refused call gives its number alone. Every call is total.
+//
+// A call whose name ends in `by` is told what the amounts of haul records are: `hauls` is 0 for hauls as written, 1 for distances by the house
+// tariff, and any other number for distances by the tariff that is handed over, whose bytes count only then.
 ghost use mathlib.Core.Path.{_≡_};
 ghost use lib.ListN.{length, getD};
-ghost use Rattle.questions.specs.Reading.{reading};
+ghost use Rattle.questions.specs.Reading.{readingAnswer, reading};
 ghost use Rattle.sheet.specs.Stretch.{farmHauls, farmFrom, HaulsFrom};
+ghost use Rattle.distances.specs.Priced.{sheetBy, readingBy, OnHauls};
 ghost use Rattle.price.specs.Pricing.{plannedAnswer, answer, areaAfter, pricing};
+ghost use Rattle.price.specs.PricingBy.{pricingBy};
 ghost use Rattle.search.specs.Planning.{openPlanning, limitedPlanning};
+ghost use Rattle.by_tariff.specs.PlanningBy.{openPlanningBy, limitedPlanningBy};
 ghost use Rattle.search.specs.Promises.{NoOpenMove, BoundedByRivals, OfSize, NoLimitedMove, BoundedByRivalsOf};
-ghost use Rattle.exports.specs.Numbers.{countsNumber, resultNumber, KeepsBits, OfWritten};
+ghost use Rattle.exports.specs.Numbers.{countsNumber, resultNumber, choiceOf, KeepsBits, CountsKeepBits, OfWritten};
 use price::Planned;
 use sheet::Reading;
+use tariff::TariffChoice;
 
 // What the parts of a number count for that begin at bit 8, at bit 16 and at bit 32.
 const BIT_8: u64 = 256;
@@ -25,10 +32,8 @@ const BIT_32: u64 = 4294967296;
 pub extern "C" fn planner_read(sheet: &[u8]) -> u64
     ensures { λ r. ⌜ r ≡ countsNumber (reading (now (sheet .entry))) ⌝ }
 {
-    match sheet::read(sheet) {
-        Reading::Accepted { yards, farms } => (yards as u64) * BIT_8 + (farms as u64) * BIT_16,
-        Reading::Refused(number) => number as u64,
-    }
+    let reading = sheet::read(sheet);
+    counts_number(reading)
 }
 
 // The length of a farm's stretch of the sheet.
@@ -94,6 +99,90 @@ pub extern "C" fn planner_limited_plan(sheet: &[u8], k: usize, area: &mut [u8]) 
 {
     let limited_plan = search::limited_plan(sheet, k, area);
     number(limited_plan)
+}
+
+// Reading by a tariff; the number as for `planner_read`.
+#[no_mangle]
+pub extern "C" fn planner_read_by(sheet: &[u8], hauls: u8, tariff: &[u8]) -> u64
+    ensures { λ r. ⌜ r ≡ countsNumber (readingBy (choiceOf hauls) (now (tariff .entry)) (now (sheet .entry))) ⌝ }
+{
+    let reading = distances::read_by(sheet, choice_of(hauls), tariff);
+    counts_number(reading)
+}
+
+// Pricing by a tariff; the number as for `planner_price`.
+#[no_mangle]
+pub extern "C" fn planner_price_by(
+    sheet: &[u8],
+    hauls: u8,
+    tariff: &[u8],
+    set: u32,
+    area: &mut [u8],
+) -> u64
+    ensures answer { λ r. ⌜ r ≡ resultNumber (answer (pricingBy (choiceOf hauls) (now (tariff .entry)) (now (sheet .entry)) set (length (now (area .entry))))) ⌝ }
+    ensures area { λ r. ⌜ now (area .exit) ≡ areaAfter (pricingBy (choiceOf hauls) (now (tariff .entry)) (now (sheet .entry)) set (length (now (area .entry)))) (now (area .entry)) ⌝ }
+    ensures kept { λ r. ⌜ OfWritten r (now (area .exit)) (λ kept. kept ≡ set) ⌝ }
+{
+    let priced = price::price_by(sheet, choice_of(hauls), tariff, set, area);
+    number(priced)
+}
+
+// The open plan by a tariff; the number as for pricing. What is promised is promised of the sheet of hauls.
+#[no_mangle]
+pub extern "C" fn planner_open_plan_by(
+    sheet: &[u8],
+    hauls: u8,
+    tariff: &[u8],
+    area: &mut [u8],
+) -> u64
+    ensures answer { λ r. ⌜ r ≡ resultNumber (answer (openPlanningBy (choiceOf hauls) (now (tariff .entry)) (now (sheet .entry)) (length (now (area .entry))))) ⌝ }
+    ensures area { λ r. ⌜ now (area .exit) ≡ areaAfter (openPlanningBy (choiceOf hauls) (now (tariff .entry)) (now (sheet .entry)) (length (now (area .entry)))) (now (area .entry)) ⌝ }
+    ensures settled { λ r. ⌜ OnHauls (sheetBy (choiceOf hauls) (now (tariff .entry)) (now (sheet .entry))) (λ h. OfWritten r (now (area .exit)) (NoOpenMove h)) ⌝ }
+    ensures bounded { λ r. ⌜ OnHauls (sheetBy (choiceOf hauls) (now (tariff .entry)) (now (sheet .entry))) (λ h. OfWritten r (now (area .exit)) (BoundedByRivals h)) ⌝ }
+{
+    let open_plan = by_tariff::open_plan_by(sheet, choice_of(hauls), tariff, area);
+    number(open_plan)
+}
+
+// The limited plan by a tariff; the number as for pricing. What is promised is promised of the sheet of hauls.
+#[no_mangle]
+pub extern "C" fn planner_limited_plan_by(
+    sheet: &[u8],
+    hauls: u8,
+    tariff: &[u8],
+    k: usize,
+    area: &mut [u8],
+) -> u64
+    ensures answer { λ r. ⌜ r ≡ resultNumber (answer (limitedPlanningBy (choiceOf hauls) (now (tariff .entry)) (now (sheet .entry)) k (length (now (area .entry))))) ⌝ }
+    ensures area { λ r. ⌜ now (area .exit) ≡ areaAfter (limitedPlanningBy (choiceOf hauls) (now (tariff .entry)) (now (sheet .entry)) k (length (now (area .entry)))) (now (area .entry)) ⌝ }
+    ensures sized { λ r. ⌜ OnHauls (sheetBy (choiceOf hauls) (now (tariff .entry)) (now (sheet .entry))) (λ h. OfWritten r (now (area .exit)) (OfSize h k)) ⌝ }
+    ensures settled { λ r. ⌜ OnHauls (sheetBy (choiceOf hauls) (now (tariff .entry)) (now (sheet .entry))) (λ h. OfWritten r (now (area .exit)) (NoLimitedMove h)) ⌝ }
+    ensures bounded { λ r. ⌜ OnHauls (sheetBy (choiceOf hauls) (now (tariff .entry)) (now (sheet .entry))) (λ h. OfWritten r (now (area .exit)) (BoundedByRivalsOf h k)) ⌝ }
+{
+    let limited_plan = by_tariff::limited_plan_by(sheet, choice_of(hauls), tariff, k, area);
+    number(limited_plan)
+}
+
+// What the amounts of haul records are, by its number.
+fn choice_of(hauls: u8) -> TariffChoice
+    ensures { λ r. ⌜ r ≡ choiceOf hauls ⌝ }
+{
+    match hauls {
+        0 => TariffChoice::NoTariff,
+        1 => TariffChoice::HouseTariff,
+        _ => TariffChoice::GivenTariff,
+    }
+}
+
+// What reading answers, as a number.
+fn counts_number(reading: Reading) -> u64
+    requires { ⌜ CountsKeepBits (readingAnswer reading) ⌝ }
+    ensures { λ r. ⌜ r ≡ countsNumber (readingAnswer reading) ⌝ }
+{
+    match reading {
+        Reading::Accepted { yards, farms } => (yards as u64) * BIT_8 + (farms as u64) * BIT_16,
+        Reading::Refused(number) => number as u64,
+    }
 }
 
 // The answer of a call that writes a plan, as a number.

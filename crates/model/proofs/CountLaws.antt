@@ -1,14 +1,16 @@
 -- Laws of counts and of sums over a set, of a set with a member more or less, and of the first members of a set.
 use Prim.Native.Nat.{ℕ, zero, suc, _+_, _*_, _≤_, _<_, min, zero-le}
-use native.Mathlib.Nat.{le-refl, le-step, lt-suc-self, not-suc-le-zero}
+use native.Mathlib.Nat.{le-refl, le-step, lt-suc-self, not-suc-le-zero, le-of-suc-le-suc, eq-or-lt-of-le, add-zero}
 use native.Mathlib.Omega.{arith}
+use native.Mathlib.Decide.{decLt}
 use mathlib.Core.Path.{_≡_, refl, sym, ap, _∙_}
 use mathlib.Core.Bool.{Bool, true, false, not, _&&_, _||_}
-use borrow.Author.Tests.{ltb-true, ltb-false}
+use mathlib.Core.Logic.{inl, inr}
+use borrow.Author.Tests.{ltb-true, ltb-false, lt-ltb, le-ltb}
 use lib.Dec.{eqb, ltb}
 use Rattle.model.specs.Loops.{on, sum}
 use Rattle.model.specs.Sets.{sumOn, count, plus, minus}
-use Rattle.model.proofs.Bools.{cases, and-left, Eq?, same, diff, test, Lt?, less, more, test<}
+use Rattle.model.proofs.Bools.{cases, clash, and-left, Eq?, same, diff, test, Lt?, less, more, test<}
 use Rattle.model.proofs.TestSetLaws.{minus-in}
 use Rattle.model.proofs.SumLaws.{sum-bound, sum-mono, sum-cong, sum-add, sum-term, sum-one, on-le, on-or-le, on-split}
 
@@ -49,6 +51,28 @@ count-under (suc m) k = go (ltb m k) (test< m k) (count-under m k)
     go : (b : Bool) → Lt? m k b → count m (λ i. ltb i k) ≡ min m k → count m (λ i. ltb i k) + on b 1 ≡ min (suc m) k
     go true (less l) ih = omega arith
     go false (more l) ih = omega arith
+
+-- a set that has every number below a member has just those below its count
+pub count-downward : (n : ℕ) (S : ℕ → Bool) → ((i j : ℕ) → i ≤ j → j < n → S j ≡ true → S i ≡ true) → (i : ℕ) → i < n → S i ≡ ltb i (count n S)
+unfolding sum
+count-downward zero S closed i l = absurd (not-suc-le-zero l)
+count-downward (suc n) S closed i l = go (count-downward n S (λ i j up below. closed i j up (le-step below)))
+  where
+    go : ((k : ℕ) → k < n → S k ≡ ltb k (count n S)) → S i ≡ ltb i (count n S + on (S n) 1)
+    go before =
+        cases (S n)
+        (λ e. let all = whole e in rw e (closed i n (le-of-suc-le-suc l) (lt-suc-self n) e ∙ sym (lt-ltb i (count n S + 1) (omega arith))))
+        (λ e. rw e (elim (eq-or-lt-of-le (le-of-suc-le-suc l)) [
+          | inl k ↦ ap S k ∙ e ∙ sym (le-ltb i (count n S + 0) (omega (arith, count-le n S)))
+          | inr k ↦ before i k ∙ ap (ltb i) (sym (add-zero (count n S)))
+        ]))
+      where
+        whole : S n ≡ true → count n S ≡ n
+        whole e =
+            elim (decLt (count n S) n) [
+              | yes b ↦ clash (closed (count n S) n (omega arith) (lt-suc-self n) e) (before (count n S) b ∙ le-ltb (count n S) (count n S) (le-refl (count n S)))
+              | no g ↦ omega (arith, count-le n S)
+            ]
 
 -- ---- sums over a set beside its count
 

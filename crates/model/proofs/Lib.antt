@@ -1,4 +1,5 @@
 pub mod Bools
+pub mod AnswerLaws
 pub mod LoopLaws
 pub mod PlaceLaws
 pub mod PassingLaws
@@ -13,6 +14,7 @@ pub mod TwoLeastLaws
 pub mod PackedLaws
 pub mod CostLaws
 pub mod QuickMetricLaws
+pub mod ChargeLaws
 pub mod NearestChangeLaws
 pub mod SetLaws
 pub mod NeighbourLaws

@@ -1,14 +1,15 @@
 -- Laws of what loops compute: before the first turn, what a turn adds, and what a loop that leaves early has found.
 -- Loops count by i + 1, so the laws for turns do too.
-use Prim.Native.Nat.{ℕ, zero, suc, _+_, _≤_, _<_}
-use native.Mathlib.Nat.{le-refl, le-trans, le-step, lt-suc-self, not-suc-le-zero, eq-or-lt-of-le, le-of-suc-le-suc}
+use Prim.Native.Nat.{ℕ, zero, suc, _+_, _*_, _≤_, _<_}
+use native.Mathlib.Nat.{add-zero, add-suc, le-refl, le-trans, le-step, lt-suc-self, not-suc-le-zero, eq-or-lt-of-le, le-of-suc-le-suc}
 use native.Mathlib.Numerals.{add-one}
 use native.Mathlib.Omega.{arith}
 use native.Mathlib.Decide.{decLt}
-use mathlib.Core.Path.{_≡_, refl, ap, ap₂, subst, _∙_}
+use mathlib.Core.Path.{_≡_, refl, sym, ap, ap₂, subst, _∙_}
 use mathlib.Core.Logic.{_⊎_, inl, inr}
-use mathlib.Core.Bool.{Bool, true, false, cond, _&&_, and-false, true≢false}
-use mathlib.Core.List.{List, [], _++_}
+use mathlib.Core.Bool.{Bool, true, false, cond, _&&_, and-false, and-true, and-assoc, true≢false}
+use mathlib.Core.List.{List, [], _++_, append-assoc, append-nil}
+use lib.ListN.{length, length-append}
 use borrow.Author.Tests.{eq-eqb, ne-eqb, eqb-true}
 use lib.Dec.{eqb}
 use Rattle.model.specs.Loops.{allBelow, leading, join}
@@ -58,6 +59,18 @@ all-fails p (suc n) h =
     cases (allBelow n p)
     (λ e. (n, lt-suc-self n, rw e at h))
     (λ e. let r = all-fails p n e in (r .0, le-step (r .1), r .2))
+
+-- tests that agree
+pub all-cong : (n : ℕ) (p q : ℕ → Bool) → ((i : ℕ) → i < n → p i ≡ q i) → allBelow n p ≡ allBelow n q
+unfolding allBelow
+all-cong zero p q h = refl
+all-cong (suc n) p q h = ap₂ _&&_ (all-cong n p q (λ i l. h i (le-step l))) (h n (lt-suc-self n))
+
+-- n indices, and k behind them
+pub all-plus : (n k : ℕ) (p : ℕ → Bool) → allBelow (n + k) p ≡ allBelow n p && allBelow k (λ j. p (n + j))
+unfolding allBelow
+all-plus n zero p = rw add-zero (sym (and-true (allBelow n p)))
+all-plus n (suc k) p = rw add-suc (ap (λ (b : Bool). b && p (n + k)) (all-plus n k p) ∙ and-assoc (allBelow n p) (allBelow k (λ j. p (n + j))) (p (n + k)))
 
 -- ---- the leading run
 
@@ -117,6 +130,11 @@ leading-holds p (suc n) i l = go (eqb (leading n p) n) (p n) (eqb-true (leading 
     go true false w e ih k = let r = w refl in ih (omega arith)
     go false here w e ih k = ih k
 
+pub leading-cong : (n : ℕ) (p q : ℕ → Bool) → ((i : ℕ) → i < n → p i ≡ q i) → leading n p ≡ leading n q
+unfolding leading
+leading-cong zero p q h = refl
+leading-cong (suc n) p q h = rw (leading-cong n p q (λ i l. h i (le-step l)), h n (lt-suc-self n))
+
 -- ---- join
 
 pub join-none : (f : ℕ → List ℕ) → join 0 f ≡ []
@@ -131,3 +149,15 @@ pub join-cong : (n : ℕ) (f g : ℕ → List ℕ) → ((i : ℕ) → i < n → 
 unfolding join
 join-cong zero f g h = refl
 join-cong (suc n) f g h = ap₂ _++_ (join-cong n f g (λ i l. h i (le-step l))) (h n (lt-suc-self n))
+
+pub join-plus : (n k : ℕ) (f : ℕ → List ℕ) → join (n + k) f ≡ join n f ++ join k (λ j. f (n + j))
+unfolding join
+join-plus n zero f = rw add-zero (sym (append-nil (join n f)))
+join-plus n (suc k) f = rw add-suc (ap (λ (l : List ℕ). l ++ f (n + k)) (join-plus n k f) ∙ append-assoc (join n f) (join k (λ j. f (n + j))) (f (n + k)))
+
+-- parts of a length each
+pub length-join : (n size : ℕ) (f : ℕ → List ℕ) → ((i : ℕ) → i < n → length (f i) ≡ size) → length (join n f) ≡ n * size
+unfolding join
+length-join zero size f h = omega arith
+length-join (suc n) size f h =
+    length-append (join n f) (f n) ∙ ap₂ _+_ (length-join n size f (λ i l. h i (le-step l))) (h n (lt-suc-self n)) ∙ omega arith

@@ -1,6 +1,7 @@
 -- What is promised of the set in the area: it follows from what holds of the plan's own set, and that follows from it; and pricing
 -- keeps the set given, and sends each farm to its nearest yard of it.
 use Prim.Native.Nat.{ℕ, _^_, _≤_, _<_}
+use native.Mathlib.Omega.{arith}
 use mathlib.Core.Path.{_≡_, refl, sym, ap, ap₂, subst, _∙_}
 use mathlib.Core.Bool.{true}
 use mathlib.Core.List.{List}
@@ -12,10 +13,10 @@ use Rattle.model.specs.Instance.{Instance, totalCost}
 use Rattle.model.proofs.Bools.{and-right}
 use Rattle.record.specs.Records.{splice}
 use Rattle.questions.specs.Bounds.{mostYards}
-use Rattle.questions.specs.Answers.{Answer, accepted}
+use Rattle.model.specs.Answers.{Answer, accepted}
 use Rattle.questions.specs.Sheet.{yards, farmByte, instanceOf}
 use Rattle.questions.specs.Reading.{counts, reading}
-use Rattle.questions.proofs.ReadingLaws.{same-result, not-both, asked, read-first}
+use Rattle.model.proofs.AnswerLaws.{same-result, not-both, asked, passed-first}
 use Rattle.questions.proofs.AcceptedLaws.{WithinBounds, door, facilities-read}
 use Rattle.price.specs.Plan.{planBytes, question9, planSet}
 use Rattle.price.specs.Pricing.{Result, Plan, plan, plannedAnswer, answer, areaAfter, OfPlan, question8, pricing, SetKept}
@@ -77,7 +78,7 @@ module _ (s : List ℕ) (set room : ℕ) (p : Plan) (h : pricing s set room ≡ 
       × (p ≡ plan (instanceOf s) (farmByte s (yards s)) set (totalCost (instanceOf s) (member set)) 0)
   unfolding pricing
   priced-when =
-      let r = read-first (reading s) _ p h in
+      let r = passed-first (reading s) _ p h in
       let c = r .0 in
       let q8 = asked (question8 (c .yards) set) 8 _ p (r .2) in
       let q9 = asked (question9 (c .yards) (c .farms) room) 9 _ p (q8 .1) in
@@ -130,3 +131,7 @@ pricing-promises s set r area next h = (
         (λ p e. (set, priced-set s set (length area) p e, refl)),
   ),
 )
+
+-- a refused call wrote no plan
+pub none-written : (k : ℕ) (area : List ℕ) (P : ℕ → Type 0) → OfPlan (Refused k) area P
+none-written k area P bytes moves e = absurd (let z : _≡_ {A = ℕ} 0 1 = cc in omega arith)

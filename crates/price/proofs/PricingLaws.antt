@@ -13,11 +13,11 @@ use Rattle.model.specs.Instance.{totalCost}
 use Rattle.model.proofs.Bools.{fails, and-left, and-right, and-both}
 use Rattle.model.proofs.SetLaws.{some-member, member-some, member-below, below-pow}
 use Rattle.record.specs.Records.{splice, amountEnd}
-use Rattle.questions.specs.Answers.{Answer, accepted, refused}
+use Rattle.model.specs.Answers.{Answer, accepted, refused}
 use Rattle.questions.specs.Sheet.{yards, farmByte, instanceBy, instanceOf}
 use Rattle.questions.specs.Shape.{Shape}
 use Rattle.questions.specs.Reading.{counts, reading}
-use Rattle.questions.proofs.ReadingLaws.{same-result, not-both}
+use Rattle.model.proofs.AnswerLaws.{same-result, not-both}
 use Rattle.questions.proofs.AcceptedLaws.{shape-of, instance-is, accepts, door}
 use Rattle.questions.proofs.CostBounds.{total-fits}
 use Rattle.price.specs.Plan.{planBytes, question9, writing}

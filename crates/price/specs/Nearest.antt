@@ -5,8 +5,7 @@ use mathlib.Core.List.{List}
 use Rattle.model.specs.Least.{any}
 use Rattle.model.specs.Sets.{member}
 use Rattle.model.specs.Instance.{Instance, nearest, assigned}
-use Rattle.record.specs.Records.{recordAt}
-use Rattle.questions.specs.Sheet.{records}
+use Rattle.record.specs.Records.{records, recordAt}
 use Rattle.price.specs.declared.nearest.Nearest.{Nearest}
 
 abbrev pub near : Bool → ℕ → ℕ → Nearest

@@ -8,7 +8,7 @@ use lib.Dec.{leb, ltb}
 use Rattle.model.specs.Sets.{member}
 use Rattle.model.specs.Instance.{Instance, totalCost}
 use Rattle.record.specs.Records.{splice}
-use Rattle.questions.specs.Answers.{Answer, accepted, refused, ask, after}
+use Rattle.model.specs.Answers.{Answer, accepted, refused, ask, after}
 use Rattle.questions.specs.Sheet.{yards, farmByte, instanceOf}
 use Rattle.questions.specs.Reading.{reading}
 use Rattle.price.specs.Plan.{planBytes, question9, planSet}

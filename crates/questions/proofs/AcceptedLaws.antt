@@ -15,10 +15,10 @@ use Rattle.model.proofs.Bools.{and-left, and-right}
 use Rattle.model.proofs.LoopLaws.{leading-holds, all-at}
 use Rattle.model.proofs.PlaceLaws.{row-within}
 use Rattle.record.specs.declared.Record.{Record}
-use Rattle.record.specs.Records.{recordOf, recordAt}
+use Rattle.record.specs.Records.{records, recordOf, recordAt}
 use Rattle.questions.specs.Bounds.{yardKind, haulKind, mostYards, mostFarms, mostLoads, mostFee, mostHaul}
-use Rattle.questions.specs.Answers.{accepted}
-use Rattle.questions.specs.Sheet.{records, isYard, yards, hauls, farms, fee, place, haul, loadsByte, farmByte, instanceBy, instanceOf}
+use Rattle.model.specs.Answers.{accepted}
+use Rattle.questions.specs.Sheet.{isYard, yards, hauls, farms, fee, place, haul, loadsByte, farmByte, instanceBy, instanceOf}
 use Rattle.questions.specs.Questions.{wellFormed, question10, haulLoaded, farmLoaded, question5, question6, amountWithin}
 use Rattle.questions.specs.Shape.{Shape}
 use Rattle.questions.specs.Reading.{counts, form, formAndLoads, reading}
@@ -51,7 +51,7 @@ yard-well-formed r e h =
     (eqb-true (r .farm) 0 (and-left _ _ both), eqb-true (r .byte3) 0 (and-right (eqb (r .farm) 0) _ both))
 
 -- question 2 of any other record
-haul-well-formed : (r : Record) → eqb (r .kind) yardKind ≡ false → wellFormed r ≡ true → r .kind ≡ haulKind
+pub haul-well-formed : (r : Record) → eqb (r .kind) yardKind ≡ false → wellFormed r ≡ true → r .kind ≡ haulKind
 unfolding wellFormed
 haul-well-formed r e h = eqb-true (r .kind) haulKind (rw e at h)
 

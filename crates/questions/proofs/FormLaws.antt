@@ -10,9 +10,9 @@ use lib.Dec.{eqb, leb}
 use Rattle.model.specs.Loops.{allBelow}
 use Rattle.model.proofs.Bools.{and-left, and-right}
 use Rattle.model.proofs.LoopLaws.{leading-le, all-at}
-use Rattle.record.specs.Records.{recordAt}
+use Rattle.record.specs.Records.{records, recordAt}
 use Rattle.questions.specs.Bounds.{mostYards, mostFarms}
-use Rattle.questions.specs.Sheet.{records, isYard, yards, hauls, farms, place}
+use Rattle.questions.specs.Sheet.{isYard, yards, hauls, farms, place}
 use Rattle.questions.specs.Questions.{question2, question3, question4, wellFormed, wellFormedAt, numbered, noYardAfter, haulInPlace, farmInPlace}
 use Rattle.questions.proofs.QuestionLaws.{length-said}
 use Rattle.questions.proofs.ReadingLaws.{Formed}

@@ -8,7 +8,7 @@ use Rattle.model.specs.Loops.{allBelow, leading}
 use Rattle.model.proofs.Bools.{eqb-self}
 use Rattle.model.specs.Instance.{metric, fourPointBPQ, fourPointPQ, fourPointQ, fourPoint}
 use Rattle.record.specs.Records.{recordOf, recordAt, bytesOf}
-use Rattle.questions.specs.Answers.{accepted, refused}
+use Rattle.model.specs.Answers.{accepted, refused}
 use Rattle.questions.specs.Sheet.{isYard, yards, hauls, farms, haul, loadsByte, loadsOf, instanceOf, instanceBy}
 use Rattle.questions.specs.Questions.{question1, question2, wellFormed, wellFormedAt, question3, numbered, noYardAfter, question4, haulInPlace, farmInPlace, question10, haulLoaded, farmLoaded, question5, amountWithin, question6}
 use Rattle.questions.specs.Reading.{counts, form, formAndLoads, reading}

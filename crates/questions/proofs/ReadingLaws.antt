@@ -7,7 +7,8 @@ use mathlib.Core.Bool.{Bool, true, false}
 use mathlib.Core.List.{List}
 use Rattle.model.specs.Instance.{Breaks}
 use Rattle.model.proofs.CostLaws.{not-metric, broken}
-use Rattle.questions.specs.Answers.{Answer, accepted, refused, ask, after}
+use Rattle.model.proofs.AnswerLaws.{same-result, not-both, asked, passed-first}
+use Rattle.model.specs.Answers.{Answer, accepted, refused, ask, after}
 use Rattle.questions.specs.Sheet.{yards, farms, instanceOf}
 use Rattle.questions.specs.Questions.{question1, question2, question3, question4, question10, question5, question6}
 use Rattle.questions.specs.Reading.{Counts, counts, form, formAndLoads, reading}
@@ -38,23 +39,6 @@ pub record AllYes (s : List ℕ) : Type 0 where
 
 same-number : {j k : ℕ} → _≡_ {A = Answer Counts} (refused j) (refused k) → j ≡ k
 same-number h = cc
-
-pub same-result : {A : Type 0} {x y : A} → accepted x ≡ accepted y → x ≡ y
-same-result h = cc
-
--- no answer is both
-pub not-both : {A : Type 0} {x : A} {k : ℕ} → accepted x ≡ refused k → ⊥
-not-both h = let z : _≡_ {A = ℕ} 0 1 = cc in omega arith
-
--- a chain of questions that ends accepted had each answered yes
-pub asked : {A : Type 0} (b : Bool) (k : ℕ) (rest : Answer A) (x : A) → ask b k rest ≡ accepted x → (b ≡ true) × (rest ≡ accepted x)
-asked true k rest x h = (refl, h)
-asked false k rest x h = absurd (not-both (sym h))
-
-pub read-first : {A : Type 0} (r : Answer Counts) (f : Counts → Answer A) (x : A) → after r f ≡ accepted x
-    → (c : Counts) × (r ≡ accepted c) × (f c ≡ accepted x)
-read-first (accepted c) f x h = (c, refl, h)
-read-first (refused k) f x h = absurd (not-both (sym h))
 
 module _ (s : List ℕ) where
   -- ---- from the answers to the form, and to the reading
@@ -195,7 +179,7 @@ module _ (s : List ℕ) where
   pub loaded : (m n : ℕ) → formAndLoads s ≡ accepted (counts m n) → (form s ≡ accepted (counts m n)) × (question10 s ≡ true)
   unfolding formAndLoads
   loaded m n h =
-      let f = read-first (form s) _ _ h in
+      let f = passed-first (form s) _ _ h in
       let t = asked (question10 s) 10 _ _ (f .2) in
       (f .1 ∙ t .1, t .0)
 

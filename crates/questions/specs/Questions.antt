@@ -7,9 +7,9 @@ use lib.Dec.{eqb, leb}
 use Rattle.model.specs.Loops.{allBelow}
 use Rattle.model.specs.Instance.{metric}
 use Rattle.record.specs.declared.Record.{Record}
-use Rattle.record.specs.Records.{recordAt}
+use Rattle.record.specs.Records.{records, recordAt}
 use Rattle.questions.specs.Bounds.{yardKind, haulKind, leastBytes, mostBytes, mostYards, mostFarms, mostLoads, mostFee, mostHaul}
-use Rattle.questions.specs.Sheet.{records, isYard, yards, hauls, farms, place, loadsByte, farmByte, instanceOf}
+use Rattle.questions.specs.Sheet.{isYard, yards, hauls, farms, place, loadsByte, farmByte, instanceOf}
 
 -- 1. Is the length a multiple of 8, from 16 to 33,024 bytes?
 unfoldable pub question1 : List ℕ → Bool

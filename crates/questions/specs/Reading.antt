@@ -1,7 +1,7 @@
 -- What reading gives.
 use Prim.Native.Nat.{ℕ}
 use mathlib.Core.List.{List}
-use Rattle.questions.specs.Answers.{Answer, accepted, refused, ask, after}
+use Rattle.model.specs.Answers.{Answer, accepted, refused, ask, after}
 use Rattle.questions.specs.Sheet.{yards, farms}
 use Rattle.questions.specs.Questions.{question1, question2, question3, question4, question10, question5, question6}
 use Rattle.questions.specs.declared.Reading.{Reading}

@@ -2,16 +2,11 @@
 use Prim.Native.Nat.{ℕ, _+_, _-_, _*_, _/_, max}
 use mathlib.Core.Bool.{Bool}
 use mathlib.Core.List.{List}
-use lib.ListN.{length}
 use lib.Dec.{eqb}
 use Rattle.model.specs.Loops.{leading}
 use Rattle.model.specs.Instance.{Instance}
-use Rattle.record.specs.Records.{recordAt}
+use Rattle.record.specs.Records.{records, recordAt}
 use Rattle.questions.specs.Bounds.{yardKind}
-
--- how many whole records the sheet has
-abbrev pub records : List ℕ → ℕ
-records s = length s / 8
 
 -- record i is a yard
 unfoldable pub isYard : List ℕ → ℕ → Bool

@@ -75,6 +75,16 @@ record-behind xs ys k i e =
     at : (b : ℕ) → getD (xs ++ ys) (8 * (k + i) + b) 0 ≡ getD ys (8 * i + b) 0
     at b = byte (8 * (k + i) + b) (8 * i + b) (omega arith)
 
+-- ---- bytes
+
+-- every number of the list is a byte
+abbrev pub Bytes : List ℕ → Type 0
+Bytes s = (i : ℕ) → getD s i 0 < 256
+
+pub amount-small : (s : List ℕ) → Bytes s → (i : ℕ) → recordAt s i .amount < amountEnd
+unfolding recordAt
+amount-small s bytes i = omega (arith, bytes (8 * i + 4), bytes (8 * i + 5), bytes (8 * i + 6), bytes (8 * i + 7))
+
 -- ---- a record that was written is read again
 
 digits : (n a b c w x y z : ℕ) → n ≡ w + 256 * a → a ≡ x + 256 * b → b ≡ y + 256 * c → c ≡ z → word w x y z ≡ n

@@ -22,6 +22,10 @@ wordBytes n = n % 256 ∷ n / 256 % 256 ∷ n / 65536 % 256 ∷ n / 16777216 % 2
 abbrev pub recordOf : ℕ → ℕ → ℕ → ℕ → ℕ → Record
 recordOf kind yard farm byte3 amount = record { kind = kind; yard = yard; farm = farm; byte3 = byte3; amount = amount }
 
+-- how many whole records the bytes hold
+abbrev pub records : List ℕ → ℕ
+records s = length s / 8
+
 -- record i of the bytes
 unfoldable pub recordAt : List ℕ → ℕ → Record
 recordAt s i =

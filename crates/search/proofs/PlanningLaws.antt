@@ -13,11 +13,11 @@ use Rattle.model.specs.Plans.{openCost, openSearch, limitedCost, limitedSearch}
 use Rattle.model.proofs.Bools.{and-left, and-right}
 use Rattle.model.proofs.SearchLaws.{search-ends}
 use Rattle.record.specs.Records.{splice}
-use Rattle.questions.specs.Answers.{Answer, accepted, refused, after}
+use Rattle.model.specs.Answers.{Answer, accepted, refused, after}
 use Rattle.questions.specs.Sheet.{yards, farmByte, instanceBy, instanceOf}
 use Rattle.questions.specs.Shape.{Shape}
 use Rattle.questions.specs.Reading.{counts, reading}
-use Rattle.questions.proofs.ReadingLaws.{same-result, asked, read-first}
+use Rattle.model.proofs.AnswerLaws.{same-result, asked, passed-first}
 use Rattle.questions.proofs.AcceptedLaws.{instance-is, accepts, door}
 use Rattle.questions.proofs.CostBounds.{total-fits, service-fits}
 use Rattle.price.specs.Plan.{question9, writing}
@@ -138,7 +138,7 @@ pub open-when : (s : List ℕ) (room : ℕ) (p : Plan) → openPlanning s room �
     → (m : ℕ) × (n : ℕ) × (reading s ≡ accepted (counts m n)) × (p ≡ openPlan (instanceOf s) (farmByte s (yards s)))
 unfolding openPlanning
 open-when s room p h =
-    let r = read-first (reading s) _ p h in
+    let r = passed-first (reading s) _ p h in
     let c = r .0 in
     let q = asked (question9 (c .yards) (c .farms) room) 9 _ p (r .2) in
     (c .yards, c .farms, r .1, sym (same-result (q .1)))
@@ -147,7 +147,7 @@ pub limited-when : (s : List ℕ) (k room : ℕ) (p : Plan) → limitedPlanning 
     → (m : ℕ) × (n : ℕ) × (reading s ≡ accepted (counts m n)) × ((1 ≤ k) × (k ≤ m)) × (p ≡ limitedPlan (instanceOf s) (farmByte s (yards s)) k)
 unfolding limitedPlanning
 limited-when s k room p h =
-    let r = read-first (reading s) _ p h in
+    let r = passed-first (reading s) _ p h in
     let c = r .0 in
     let q7 = asked (question7 (c .yards) k) 7 _ p (r .2) in
     let q9 = asked (question9 (c .yards) (c .farms) room) 9 _ p (q7 .1) in

@@ -15,7 +15,7 @@ use Rattle.model.proofs.LeastLaws.{arg-least, any-counted}
 use Rattle.model.proofs.SearchLaws.{search-ends}
 use Rattle.model.proofs.PlanLaws.{open-plan-keeps, limited-plan-keeps}
 use Rattle.bounds.proofs.Searches.{open-plan-bound, open-plan-thrice, limited-plan-bound}
-use Rattle.questions.specs.Answers.{accepted}
+use Rattle.model.specs.Answers.{accepted}
 use Rattle.questions.specs.Sheet.{yards, farmByte, instanceOf, instanceBy}
 use Rattle.questions.specs.Reading.{counts, reading}
 use Rattle.questions.proofs.AcceptedLaws.{WithinBounds, door, facilities-are, facilities-read}

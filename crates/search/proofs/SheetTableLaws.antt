@@ -16,7 +16,7 @@ use Rattle.model.proofs.CostLaws.{same-service, same-opening}
 use Rattle.record.specs.declared.Record.{Record}
 use Rattle.record.specs.Records.{recordAt, wholeRecordAt}
 use Rattle.questions.specs.Bounds.{mostLoads, mostFee, mostHaul}
-use Rattle.questions.specs.Answers.{accepted}
+use Rattle.model.specs.Answers.{accepted}
 use Rattle.questions.specs.Sheet.{fee, haul, farmByte, loadsOf, instanceBy}
 use Rattle.questions.specs.Reading.{counts, reading}
 use Rattle.questions.proofs.AcceptedLaws.{HasAmounts, accepts, shape-of}

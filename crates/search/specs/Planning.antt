@@ -4,7 +4,7 @@ use mathlib.Core.Bool.{Bool, _&&_}
 use mathlib.Core.List.{List}
 use lib.Dec.{leb}
 use Rattle.model.specs.Instance.{Instance}
-use Rattle.questions.specs.Answers.{Answer, accepted, ask, after}
+use Rattle.model.specs.Answers.{Answer, accepted, ask, after}
 use Rattle.questions.specs.Sheet.{yards, farmByte, instanceOf}
 use Rattle.questions.specs.Reading.{reading}
 use Rattle.price.specs.Plan.{question9}

@@ -10,7 +10,7 @@ ghost use Rattle.record.specs.Records.{amountEnd};
 ghost use Rattle.questions.specs.Bounds.{mostYards};
 ghost use Rattle.questions.specs.Sheet.{farmByte, instanceBy};
 ghost use Rattle.questions.specs.Shape.{Shape};
-ghost use Rattle.questions.specs.Answers.{accepted};
+ghost use Rattle.model.specs.Answers.{accepted};
 ghost use Rattle.questions.specs.Reading.{counts, reading};
 ghost use Rattle.price.specs.Plan.{question9};
 ghost use Rattle.price.specs.Pricing.{plannedAnswer, answer, areaAfter};

@@ -2,7 +2,7 @@
 ghost use mathlib.Core.Path.{_≡_};
 ghost use Prim.Native.Nat.{_+_, _*_, _≤_, _<_};
 ghost use lib.ListN.{length};
-ghost use Rattle.questions.specs.Answers.{accepted};
+ghost use Rattle.model.specs.Answers.{accepted};
 ghost use Rattle.questions.specs.Sheet.{fee};
 ghost use Rattle.questions.specs.Reading.{counts, reading};
 ghost use Rattle.price.specs.Nearest.{amountAt};

@@ -12,7 +12,7 @@ use Rattle.model.proofs.PlaceLaws.{row-within}
 use Rattle.record.specs.Records.{recordOf, recordAt}
 use Rattle.record.proofs.RecordLaws.{part-record}
 use Rattle.questions.specs.Bounds.{haulKind}
-use Rattle.questions.specs.Answers.{Answer, accepted, refused}
+use Rattle.model.specs.Answers.{Answer, accepted, refused}
 use Rattle.questions.specs.Sheet.{place, haul, loadsByte}
 use Rattle.questions.specs.Shape.{Shape}
 use Rattle.questions.specs.Reading.{Counts, counts, form}

@@ -11,9 +11,10 @@ use Rattle.model.specs.Loops.{allBelow}
 use Rattle.model.proofs.Bools.{cases, clash, eqb-self, and-both}
 use Rattle.model.proofs.LoopLaws.{all-from}
 use Rattle.four_point.specs.Table.{keepsRule}
+use Rattle.record.specs.Records.{records}
 use Rattle.questions.specs.Bounds.{leastBytes, mostBytes, mostYards, mostFarms, mostLoads, mostFee, mostHaul}
-use Rattle.questions.specs.Answers.{accepted, refused}
-use Rattle.questions.specs.Sheet.{records, fee, haul, loadsByte, farmByte}
+use Rattle.model.specs.Answers.{accepted, refused}
+use Rattle.questions.specs.Sheet.{fee, haul, loadsByte, farmByte}
 use Rattle.questions.specs.Questions.{wellFormed, question5, question6}
 use Rattle.questions.specs.Reading.{Counts, counts, form, formAndLoads, reading}
 use Rattle.questions.proofs.ReadingLaws.{formed, loaded, reading-5, reading-6, reading-yes}

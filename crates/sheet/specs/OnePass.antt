@@ -8,7 +8,7 @@ use Rattle.model.specs.Loops.{allBelow}
 use Rattle.record.specs.declared.Record.{Record}
 use Rattle.record.specs.Records.{recordAt}
 use Rattle.questions.specs.Bounds.{yardKind, haulKind, mostYards, mostLoads, mostFee, mostHaul}
-use Rattle.questions.specs.Answers.{accepted}
+use Rattle.model.specs.Answers.{accepted}
 use Rattle.questions.specs.Sheet.{yards, place, farmByte}
 use Rattle.questions.specs.Questions.{wellFormed, question5}
 use Rattle.questions.specs.Reading.{counts, formAndLoads}

@@ -6,7 +6,7 @@ use mathlib.Core.List.{List, []}
 use lib.ListN.{length, take, drop}
 use lib.Dec.{leb, ltb}
 use Rattle.questions.specs.Bounds.{mostYards, mostFarms}
-use Rattle.questions.specs.Answers.{Answer, accepted, refused}
+use Rattle.model.specs.Answers.{Answer, accepted, refused}
 use Rattle.questions.specs.Reading.{Counts, form}
 
 -- The m haul records of farm p on a sheet of m yards; the empty stretch where m is above 32, p is 128 or above, or the sheet

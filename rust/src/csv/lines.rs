@@ -18,7 +18,7 @@ impl Line {
 /// The lines in order, each as its cells or its first fault. Empty lines after the last filled one are passed over.
 pub fn lines(file: &[u8]) -> impl Iterator<Item = Result<Line, Fault>> + '_ {
     let text = file.strip_prefix(BYTE_ORDER_MARK).unwrap_or(file).trim_ascii_end();
-    // The first cell is the word cents, so the first of the two is no part of a name.
+    // The first cell says what the table is of and has neither, so the first of the two is no part of a name.
     let separator = text.iter().copied().find(|byte| b",;".contains(byte)).unwrap_or(b',') as char;
     text.split(|&byte| byte == b'\n').enumerate().map(move |(index, line)| {
         let number = index + 1;

@@ -1,9 +1,11 @@
-//! Questions 1 to 5 with 10 after 4, and a sheet as a table.
+//! Questions 1 to 5 with 10 after 4 and 13 before 5, and a sheet as a table.
 use super::rule;
+use super::tariff::{Bands, Pricing};
 use crate::format::{
-    HAUL, HIGHEST_FEE, HIGHEST_HAUL, LONGEST_SHEET, MOST_FARMS, MOST_LOADS, MOST_YARDS, RECORD, SHORTEST_SHEET, YARD,
+    amount, HAUL, HIGHEST_FEE, HIGHEST_HAUL, LONGEST_SHEET, MOST_FARMS, MOST_LOADS, MOST_YARDS, RECORD, SHORTEST_SHEET,
+    YARD,
 };
-use crate::Answer;
+use crate::{Answer, Tariff};
 
 type Record = [u8; RECORD];
 /// An amount for each yard.
@@ -36,14 +38,21 @@ impl Hauls {
         &self.rows.as_chunks().0[..self.farms.div_ceil(4)]
     }
 
-    /// Asks questions 1 to 4, 10, 5 and 6, and fills a table that has nothing yet.
-    pub fn read(&mut self, sheet: &[u8]) -> Answer<()> {
+    /// Asks questions 11, 12, 1 to 4, 10, 13, 5 and 6, and fills a table that has nothing yet. Distances are priced once all
+    /// stand in it. Hauls do not fall as distances rise, so the farthest distance that the tariff allows has the highest haul.
+    pub fn read(&mut self, sheet: &[u8], tariff: Tariff, pricing: Pricing) -> Answer<()> {
+        let bands = Bands::of(tariff)?;
         if !sheet.len().is_multiple_of(RECORD) || !(SHORTEST_SHEET..=LONGEST_SHEET).contains(&sheet.len()) {
             return Err(1);
         }
         let records = sheet.as_chunks().0;
-        if !self.fill(records) {
-            return Err(first_no(records));
+        let highest = bands.as_ref().map_or(HIGHEST_HAUL, |bands| bands.farthest);
+        if !self.fill(records, highest) {
+            return Err(first_no(records, bands.map(|bands| bands.last_end)));
+        }
+        if let Some(bands) = bands {
+            bands.price(&mut self.rows[..self.farms], pricing);
+            self.rows[..self.farms].iter_mut().for_each(|row| row[self.yards..].fill(HIGHEST_HAUL));
         }
         if !rule::four_points(self) {
             return Err(6);
@@ -51,8 +60,9 @@ impl Hauls {
         Ok(())
     }
 
-    /// Fills the table in one pass over the records, and says whether questions 2 to 5 and 10 are all answered yes.
-    fn fill(&mut self, records: &[Record]) -> bool {
+    /// Fills the table in one pass over the records, and says whether questions 2 to 5, 10 and 13 are all answered yes where
+    /// 13 and 5 ask for an amount of hauls up to the highest.
+    fn fill(&mut self, records: &[Record], highest: u32) -> bool {
         let yards = yards_first(records);
         if !(1..=MOST_YARDS).contains(&yards) || !records.len().is_multiple_of(yards) {
             return false;
@@ -70,19 +80,19 @@ impl Hauls {
             let loads = records[0][3];
             self.loads_bytes[farm] = loads;
             most_loads = most_loads.max(loads);
-            faults |= fill_row(row, records, [HAUL, 0, farm as u8, loads]);
+            faults |= fill_row(row, records, [HAUL, 0, farm as u8, loads], highest);
         }
         faults == 0 && most_loads <= MOST_LOADS
     }
 }
 
 /// Writes a farm's hauls to its row; gives 0 where its records are right. Of a full row the compiler knows the length.
-fn fill_row(row: &mut Amounts, records: &[Record], head: [u8; 4]) -> u32 {
+fn fill_row(row: &mut Amounts, records: &[Record], head: [u8; 4], highest: u32) -> u32 {
     if let Some(full) = records.as_array::<MOST_YARDS>() {
-        return amounts(full, head, HIGHEST_HAUL, |yard, haul| row[yard] = haul);
+        return amounts(full, head, highest, |yard, haul| row[yard] = haul);
     }
     *row = [HIGHEST_HAUL; MOST_YARDS];
-    amounts(records, head, HIGHEST_HAUL, |yard, haul| row[yard] = haul)
+    amounts(records, head, highest, |yard, haul| row[yard] = haul)
 }
 
 /// Hands on the amount of each record. Gives 0 where every record has the kind, the farm number and the byte 3 of this
@@ -108,8 +118,9 @@ fn yards_first(records: &[Record]) -> usize {
     records.iter().take_while(|record| record[0] == YARD).count()
 }
 
-/// The number of the first question of 2, 3, 4, 10 and 5 that is answered no, where one is.
-fn first_no(records: &[Record]) -> u8 {
+/// The number of the first question of 2, 3, 4, 10, 13 and 5 that is answered no, where one is. Without a tariff there is no
+/// last end, and 13 is not asked.
+fn first_no(records: &[Record], last_end: Option<u32>) -> u8 {
     let formed = |&[kind, _, farm, byte_3, ..]: &Record| kind == HAUL || kind == YARD && farm == 0 && byte_3 == 0;
     if !records.iter().all(formed) {
         return 2;
@@ -136,5 +147,8 @@ fn first_no(records: &[Record]) -> u8 {
     if !hauls.chunks_exact(yards).all(loaded) {
         return 10;
     }
-    5
+    match last_end {
+        Some(end) if hauls.iter().any(|record| amount(record) > end) => 13,
+        _ => 5,
+    }
 }

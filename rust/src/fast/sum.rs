@@ -1,4 +1,5 @@
 //! What costs are summed in, and what a haul and its yard stand in together.
+use super::tariff::Pricing;
 use crate::format::{HIGHEST_FEE, HIGHEST_HAUL, MOST_FARMS, MOST_LOADS, MOST_YARDS};
 use std::iter;
 use std::ops::{Add, AddAssign, BitOr, Shl, Shr, Sub};
@@ -18,6 +19,8 @@ pub trait Sum:
     + Shr<u32, Output = Self>
     + BitOr<Output = Self>
 {
+    /// Narrow sums go with narrow prices.
+    const PRICING: Pricing;
     fn low_32(self) -> u32;
     /// The lesser and the greater of two numbers below half of what the bits hold.
     fn lesser(self, other: Self) -> Self;
@@ -33,6 +36,8 @@ const _: () = assert!(HIGHEST_COST <= u32::MAX as u64);
 
 /// Every x86-64 processor compares signed numbers of 32 bits by vector, unsigned ones not.
 impl Sum for u32 {
+    const PRICING: Pricing = Pricing::Falls;
+
     #[inline(always)]
     fn low_32(self) -> u32 {
         self
@@ -50,6 +55,8 @@ impl Sum for u32 {
 }
 
 impl Sum for u64 {
+    const PRICING: Pricing = Pricing::Lines;
+
     #[inline(always)]
     fn low_32(self) -> u32 {
         self as u32

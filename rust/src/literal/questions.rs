@@ -1,6 +1,8 @@
-//! Document 01, "Questions put to a call, first to last", with question 10 of paper 2 of document 02.
+//! Document 01, "Questions put to a call, first to last", with question 10 of paper 2 of document 02 and questions
+//! 11, 12 and 13 of paper 3.
 use super::haul_sheet::{records, HaulSheet, Record, HAUL, RECORD_BYTES, YARD};
-use crate::Answer;
+use super::tariff::{ask_11_and_12, priced, question_13};
+use crate::{Answer, Tariff};
 
 const LEAST_SHEET_BYTES: usize = 16;
 const MOST_SHEET_BYTES: usize = 33_024;
@@ -30,10 +32,16 @@ pub fn ask_1_to_4(sheet: &[u8]) -> Answer<HaulSheet> {
     Ok(HaulSheet::new(&records))
 }
 
-/// The questions that every call but a farm's stretch asks. Paper 2: 10 after question 4.
-pub fn ask_1_to_6(sheet: &[u8]) -> Answer<HaulSheet> {
-    let sheet = ask_1_to_4(sheet)?;
+/// The questions that every call but a farm's stretch asks. Paper 2: 10 after question 4. Paper 3: 11 and then 12 ahead of
+/// question 1, 13 just before question 5, and 5 and 6 hold the priced hauls.
+pub fn ask_1_to_6(sheet: &[u8], tariff: Tariff) -> Answer<HaulSheet> {
+    let bands = ask_11_and_12(tariff)?;
+    let mut sheet = ask_1_to_4(sheet)?;
     ask(10, question_10(&sheet))?;
+    if let Some(bands) = bands {
+        ask(13, question_13(&sheet, &bands))?;
+        sheet = priced(sheet, &bands);
+    }
     ask(5, question_5(&sheet))?;
     ask(6, question_6(&sheet))?;
     Ok(sheet)

@@ -1,5 +1,7 @@
 //! What only this program tells: the moves one by one, the costs of sets, what a yard is chosen by, a farm's stretch; and each of
-//! these with loads.
+//! these with loads. `tariffs` has hauls from a tariff.
+mod tariffs;
+
 use super::*;
 
 fn sheet<const M: usize>(fees: [u8; M], farms: &[[u8; M]]) -> Vec<u8> {
@@ -27,11 +29,16 @@ fn with_loads(mut sheet: Vec<u8>, loads: &[u8]) -> Vec<u8> {
     sheet
 }
 
+/// The amounts of a sheet of hauls that questions 1 to 6 accept.
+fn accepted(sheet: &[u8]) -> haul_sheet::HaulSheet {
+    ask_1_to_6(sheet, Tariff::None).unwrap()
+}
+
 #[test]
 fn moves_of_s() {
     // Taking the first lowering move instead of the lowest would add yard 0 first.
     assert_eq!(open_moves(&sheet_s()), [Move::Add { yard: 2 }, Move::Add { yard: 0 }]);
-    let limited_moves = |k| search::limited_plan(&ask_1_to_6(&sheet_s()).unwrap(), k).moves;
+    let limited_moves = |k| search::limited_plan(&accepted(&sheet_s()), k).moves;
     assert_eq!(limited_moves(1), [Move::Swap { out: 0, into: 1 }]);
     assert_eq!(limited_moves(2), [Move::Swap { out: 0, into: 2 }]);
     assert_eq!(limited_moves(3), []);
@@ -47,21 +54,21 @@ fn moves_of_every_kind() {
 
 #[test]
 fn the_list_of_moves_in_order() {
-    let accepted = ask_1_to_6(&sheet([0; 4], &[[1; 4]])).unwrap();
+    let four_yards = accepted(&sheet([0; 4], &[[1; 4]]));
     let adds = [Move::Add { yard: 0 }, Move::Add { yard: 2 }];
     let drops = [Move::Drop { yard: 1 }, Move::Drop { yard: 3 }];
     let swaps = [(1, 0), (1, 2), (3, 0), (3, 2)].map(|(out, into)| Move::Swap { out, into });
     let all = [&adds[..], &drops[..], &swaps[..]].concat();
-    assert_eq!(search::open_plan_moves(&accepted, 0b1010), all);
-    assert_eq!(search::swaps(&accepted, 0b1010), swaps);
+    assert_eq!(search::open_plan_moves(&four_yards, 0b1010), all);
+    assert_eq!(search::swaps(&four_yards, 0b1010), swaps);
     // The last yard is not dropped.
-    let drops_last = search::open_plan_moves(&accepted, 0b1000).contains(&Move::Drop { yard: 3 });
+    let drops_last = search::open_plan_moves(&four_yards, 0b1000).contains(&Move::Drop { yard: 3 });
     assert!(!drops_last);
 }
 
 #[test]
 fn costs_of_s() {
-    let sheet = ask_1_to_6(&sheet_s()).unwrap();
+    let sheet = accepted(&sheet_s());
     let costs = |set| (sheet.haul_cost(set), sheet.fees_of(set));
     assert_eq!(costs(0b001), (15, 1));
     assert_eq!(costs(0b010), (9, 4));
@@ -74,7 +81,7 @@ fn costs_of_s() {
 #[test]
 fn costs_of_s_with_loads() {
     // The hauls times 2, 1 and 3 loads: 2, 6, 18; 5, 1, 5; 27, 15, 3.
-    let sheet = ask_1_to_6(&with_loads(sheet_s(), &[2, 1, 3])).unwrap();
+    let sheet = accepted(&with_loads(sheet_s(), &[2, 1, 3]));
     let costs = |set| (sheet.haul_cost(set), sheet.full_cost(set));
     assert_eq!(costs(0b001), (2 + 5 + 27, 34 + 1));
     assert_eq!(costs(0b010), (6 + 1 + 15, 22 + 4));
@@ -84,7 +91,7 @@ fn costs_of_s_with_loads() {
     assert_eq!(costs(0b110), (6 + 1 + 3, 10 + 6));
     assert_eq!(costs(0b111), (2 + 1 + 3, 6 + 7));
     // 0 is read as 1.
-    let (zeros, ones) = (ask_1_to_6(&sheet_s()).unwrap(), ask_1_to_6(&with_loads(sheet_s(), &[1; 3])).unwrap());
+    let (zeros, ones) = (accepted(&sheet_s()), accepted(&with_loads(sheet_s(), &[1; 3])));
     assert!((1..8).all(|set| zeros.full_cost(set) == ones.full_cost(set)));
 }
 
@@ -93,7 +100,7 @@ fn moves_of_s_with_loads() {
     // Farm 0 with 20 loads: {0} costs 35, {0, 1} 31 and {0, 2} 29, as all three; {0} hauls 34, {0, 1} 26 as {0, 2} does.
     let heavy = with_loads(sheet_s(), &[20, 1, 0]);
     assert_eq!(open_moves(&heavy), [Move::Add { yard: 2 }]);
-    let limited_moves = |k| search::limited_plan(&ask_1_to_6(&heavy).unwrap(), k).moves;
+    let limited_moves = |k| search::limited_plan(&accepted(&heavy), k).moves;
     assert_eq!([limited_moves(1), limited_moves(2), limited_moves(3)], [[]; 3]);
 }
 
@@ -162,7 +169,7 @@ fn yards_given(call: impl Fn(&mut [u8]) -> Answer<Written>) -> Vec<u8> {
 fn check_choice<const M: usize>(fees: [u8; M], farms: &[[u8; M]], set: u32, yards: &[u8], by: &[ChosenBy]) {
     let sheet = sheet(fees, farms);
     assert_eq!(yards_given(|area| price(&sheet, set, area)), yards);
-    assert_eq!(chosen_by(&sheet, set), by);
+    assert_eq!(chosen_by(&sheet, Tariff::None, set), by);
 }
 
 #[test]
@@ -179,7 +186,8 @@ fn a_yard_is_chosen_by_haul_then_fee_then_number() {
     // Only yards of the set count.
     check_choice([4, 2, 1], &[[3, 3, 3]], 0b011, &[1], &[Fee]);
     check_choice([4, 2, 1], &[[3, 3, 3]], 0b001, &[0], &[Haul]);
-    assert_eq!([chosen_by(&sheet_s(), 0), chosen_by(&sheet_s(), 8), chosen_by(&sheet_s()[1..], 1)], [[]; 3]);
+    let of_none = |sheet: &[u8], set| chosen_by(sheet, Tariff::None, set);
+    assert_eq!([of_none(&sheet_s(), 0), of_none(&sheet_s(), 8), of_none(&sheet_s()[1..], 1)], [[]; 3]);
 }
 
 #[test]

@@ -1,18 +1,28 @@
 //! Seeded sheets of every kind: tables by the way their amounts are drawn (`tables`), with loads (`loads`), sheets of good
 //! form (`good_form`), sheets with a fault made on purpose (`faults`) or by chance (`chance`), those that document 01 names
-//! (`named`), and the kept sheets whose open plan drops a yard (`kept`).
+//! (`named`), and the kept sheets whose open plan drops a yard (`kept`); tariffs (`tariffs`), broken ones (`breaks`), sheets of
+//! distances (`distances`), and a tariff beside a sheet (`beside`).
 use crate::random::Random;
 use crate::table::Table;
 use crate::{Answer, Counts};
 
+mod beside;
+mod breaks;
 mod chance;
+mod distances;
 mod faults;
 mod good_form;
 mod kept;
 mod loads;
 mod named;
 mod tables;
+mod tariffs;
 
+pub use beside::{
+    accepted_by, damaged_by, faulty_by, fee_too_high_by, loose_by, refused_by, to_the_cent_by, too_far_beside,
+    too_far_by, Beside,
+};
+pub use breaks::refused_tariffs;
 pub use chance::{damaged, loose_records, random_bytes};
 pub use faults::{faulty, several_faults};
 pub use good_form::{accepted, broken_by_one_cent, kept_to_the_cent, tied, unrepaired};
@@ -20,6 +30,7 @@ pub use kept::{kept, kept_moves};
 pub use loads::{any_loads, put_loads, with_any_loads};
 pub use named::named;
 pub use tables::{from_lists, manhattan, plane, repair, small_amounts, within_threefold};
+pub use tariffs::{house_tariff, one_rate, tariff, TariffSample};
 
 /// A sheet under the name that a failed comparison prints.
 #[derive(Clone, Debug)]

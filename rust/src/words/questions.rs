@@ -1,6 +1,7 @@
-//! The questions put to a call by their numbers, in the words of document 01 and, for loads, of paper 2 of document 02.
+//! The questions put to a call by their numbers, in the words of document 01 and, for loads and tariffs, of papers 2 and 3 of
+//! document 02.
 
-pub const QUESTIONS: [&str; 10] = [
+pub const QUESTIONS: [&str; 13] = [
     "Is the length a multiple of 8, from 16 to 33,024 bytes?",
     "Is every kind 59 or 48 hex, every byte 3 zero (since paper 2 in yard records alone), and byte 2 zero in every yard \
      record?",
@@ -13,4 +14,8 @@ pub const QUESTIONS: [&str; 10] = [
      numbered m or above?",
     "Is the lent plan area at least 8 × (m + n + 2) bytes?",
     "Loads (paper 2): is byte 3 of every haul record at most 20, and the same in all of a farm's records?",
+    "Tariff (paper 3): is it 1 to 16 records of kind 42 hex, numbered from 0 in order, band 0 starting at 0 and each band at \
+     its predecessor's end, without a gap, an overlap or an empty band?",
+    "Tariff (paper 3): is no rate above the band before it?",
+    "Distances (paper 3): is no distance past the last end?",
 ];

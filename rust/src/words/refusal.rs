@@ -1,23 +1,30 @@
-//! Why a call is refused: the first question that is answered no, and where. Question 10 is asked after question 4.
+//! Why a call is refused: the first question that is answered no, and where. The order is 11, 12, 1, 2, 3, 4, 10, 13, 5, 6, 7, 8,
+//! 9; `tariff` has 11 and 12, and `amounts` 13, 5 and 6.
 //!
 //! The number of a refusal is the library's. The fault is searched here, from the documents alone, and must be of that number.
+mod amounts;
+mod tariff;
+
 use super::questions::QUESTIONS;
 use super::Names;
 use crate::format::{
-    amount, least_area, HAUL, HIGHEST_FEE, HIGHEST_HAUL, LONGEST_SHEET, MOST_FARMS, MOST_LOADS, MOST_YARDS, RECORD,
-    SHORTEST_SHEET, YARD,
+    amount, least_area, HAUL, LONGEST_SHEET, MOST_FARMS, MOST_LOADS, MOST_YARDS, RECORD, SHORTEST_SHEET, YARD,
 };
+use crate::{bands, Tariff};
+use amounts::WellFormed;
 
 /// What a call was given beside the sheet.
 #[derive(Clone, Copy, Debug, Default)]
-pub struct Given {
+pub struct Given<'a> {
+    pub tariff: Tariff<'a>,
     pub k: Option<usize>,
     pub set: Option<u32>,
     /// The length of the lent plan area.
     pub area: Option<usize>,
 }
 
-/// A question that is answered no, the records that show it (none where a count or something given does), and why in words.
+/// A question that is answered no, the records that show it (none where a count or something given does; those of the tariff
+/// for 11 and 12), and why in words.
 #[derive(Debug)]
 pub struct Fault {
     pub question: u8,
@@ -43,15 +50,24 @@ pub fn explained(number: u8, sheet: &[u8], given: &Given, names: &Names) -> Resu
 /// The first question that is answered no, by a search of its own.
 pub fn first_fault(sheet: &[u8], given: &Given, names: &Names) -> Option<Fault> {
     let records: Vec<&[u8]> = sheet.chunks_exact(RECORD).collect();
-    length(sheet).or_else(|| kinds(&records)).or_else(|| yards(&records)).or_else(|| {
-        let m = records.iter().take_while(|record| record[0] == YARD).count();
-        let n = (records.len() - m) / m;
-        places(&records, m)
-            .or_else(|| loads(&records, m, names))
-            .or_else(|| amounts(&records))
-            .or_else(|| four_points(&records, m, n, names))
-            .or_else(|| beside(given, m, n))
-    })
+    tariff::fault(given.tariff)
+        .or_else(|| length(sheet))
+        .or_else(|| kinds(&records))
+        .or_else(|| yards(&records))
+        .or_else(|| after_yards(&records, given, names))
+}
+
+/// The questions that need the count of yards.
+fn after_yards(records: &[&[u8]], given: &Given, names: &Names) -> Option<Fault> {
+    let m = records.iter().take_while(|record| record[0] == YARD).count();
+    let n = (records.len() - m) / m;
+    let sheet = WellFormed { records, m, n, bands: bands::of(given.tariff) };
+    places(records, m)
+        .or_else(|| loads(records, m, names))
+        .or_else(|| sheet.distances())
+        .or_else(|| sheet.bounds())
+        .or_else(|| sheet.four_points(names))
+        .or_else(|| beside(given, m, n))
 }
 
 fn without_record(question: u8, words: String) -> Option<Fault> {
@@ -65,7 +81,6 @@ fn at_record(question: u8, records: &[&[u8]], at: usize, words: String) -> Optio
 
 /// A record's place, its bytes in hex and what they mean.
 fn described(record: &[u8], at: usize) -> String {
-    let hex: Vec<String> = record.iter().map(|byte| format!("{byte:02X}")).collect();
     let (yard, farm, amount) = (record[1], record[2], amount(record));
     let loads = if record[3] == 0 { String::new() } else { format!("loads {}, ", record[3]) };
     let meaning = match record[0] {
@@ -73,7 +88,11 @@ fn described(record: &[u8], at: usize) -> String {
         HAUL => format!("a haul, yard {yard}, farm {farm}, {loads}amount {amount}"),
         _ => "neither a yard nor a haul".into(),
     };
-    format!("Record {at} (counted from 0), at byte {}: {} hex: {meaning}.", at * RECORD, hex.join(" "))
+    format!("Record {at} (counted from 0), at byte {}: {} hex: {meaning}.", at * RECORD, hex(record))
+}
+
+fn hex(record: &[u8]) -> String {
+    record.iter().map(|byte| format!("{byte:02X}")).collect::<Vec<_>>().join(" ")
 }
 
 /// Question 1.
@@ -161,50 +180,6 @@ fn loads(records: &[&[u8]], m: usize, names: &Names) -> Option<Fault> {
     let (at, words) = (m..records.len()).find_map(|at| Some((at, wrong(at)?)))?;
     let farm = names.farm(place(at, m).1);
     at_record(10, records, at, format!("Its byte 3, the loads of {farm}, {words}"))
-}
-
-/// Question 5.
-fn amounts(records: &[&[u8]]) -> Option<Fault> {
-    let bound = |record: &[u8]| if record[0] == YARD { ("fee", HIGHEST_FEE) } else { ("haul", HIGHEST_HAUL) };
-    let at = records.iter().position(|record| amount(record) > bound(record).1)?;
-    let (word, most) = bound(records[at]);
-    at_record(5, records, at, format!("Its {word} is {}. Asked: at most {most}.", amount(records[at])))
-}
-
-/// Question 6: of all that break the rule, the first of those that break it by most.
-fn four_points(records: &[&[u8]], m: usize, n: usize, names: &Names) -> Option<Fault> {
-    let hauls: Vec<i64> = records[m..].iter().map(|record| amount(record) as i64).collect();
-    let haul = |yard: usize, farm: usize| hauls[farm * m + yard];
-    let mut most = 0;
-    let mut worst = None;
-    for (a, b) in pairs(m) {
-        for (p, q) in pairs(n) {
-            let excess = haul(a, q) - haul(a, p) - haul(b, p) - haul(b, q);
-            if excess > most {
-                most = excess;
-                worst = Some([a, b, p, q]);
-            }
-        }
-    }
-    let [a, b, p, q] = worst?;
-    let at = |yard: usize, farm: usize| m + farm * m + yard;
-    let line = |hauls: &str, yard: usize, farm: usize| {
-        format!("haul({hauls}) is {}, record {} at byte {}.", haul(yard, farm), at(yard, farm), at(yard, farm) * RECORD)
-    };
-    let words = [
-        format!("a is {}, b is {}, p is {}, q is {}.", names.yard(a), names.yard(b), names.farm(p), names.farm(q)),
-        line("a, q", a, q),
-        line("a, p", a, p),
-        line("b, p", b, p),
-        line("b, q", b, q),
-        format!("The last three come to {}; the first is more by {most}.", haul(a, q) - most),
-    ];
-    Some(Fault { question: 6, records: vec![at(a, q), at(a, p), at(b, p), at(b, q)], words: words.join("\n") })
-}
-
-/// All pairs of numbers below a count, in order.
-fn pairs(count: usize) -> impl Iterator<Item = (usize, usize)> {
-    (0..count).flat_map(move |one| (0..count).map(move |other| (one, other)))
 }
 
 /// Questions 7, 8 and 9, where they are put.

@@ -1,16 +1,17 @@
-//! Document 01's cases beside the marked ones, ties, loads, and sheets and calls with several faults at once: each sheet is built
+//! Document 01's cases beside the marked ones, ties, loads, tariffs, and sheets and calls with several faults at once: each sheet is built
 //! here, and what the calls answer and leave in the area makes a line. The file `lines` has the lines that must come,
 //! checked by hand.
 mod loads;
 mod planning;
 mod reading;
 mod sheets;
+mod tariffs;
 
 use planner::calls::{Calls, FAST, LIBRARY, LITERAL};
 use planner::{library, literal};
 
 const MUST_COME: &str = include_str!("lines");
-const LINE_COUNT: usize = 140;
+const LINE_COUNT: usize = 217;
 
 /// How an implementation gives a farm's stretch.
 type FarmHauls = fn(&[u8], usize) -> Vec<u8>;
@@ -25,7 +26,7 @@ fn library_farm_hauls(sheet: &[u8], farm: usize) -> Vec<u8> {
 /// Compares line by line, and shows every difference before it fails.
 fn compare(calls: &Calls, farm_hauls: Option<FarmHauls>) {
     let farms = farm_hauls.map_or(Vec::new(), |hauls| [reading::farms(hauls), loads::farms(hauls)].concat());
-    let came = [reading::all(calls), farms, planning::all(calls), loads::all(calls)].concat();
+    let came = [reading::all(calls), farms, planning::all(calls), loads::all(calls), tariffs::all(calls)].concat();
     assert_eq!(MUST_COME.lines().count(), LINE_COUNT, "lines in the file");
     let must_come: Vec<&str> =
         MUST_COME.lines().filter(|line| farm_hauls.is_some() || !line.starts_with("farm ")).collect();

@@ -7,7 +7,7 @@ use planner::calls::{Calls, PlanCall};
 use planner::format::{amount, record, FARM, HIGHEST_FEE, HIGHEST_HAUL, MOST_AREA, MOST_FARMS, MOST_YARDS, RECORD};
 use planner::{Answer, Written};
 
-const PATTERN: u8 = 0xa5;
+pub const PATTERN: u8 = 0xa5;
 
 /// The area that question 9 asks for S.
 pub const S_AREA: usize = 64;
@@ -38,7 +38,7 @@ fn plan_case(calls: &Calls, name: &str, sheet: &[u8], call: PlanCall, room: usiz
 }
 
 /// What a call answered and left, with the records of the plan where they are few, else the last two.
-fn answer_line(name: &str, answer: Answer<Written>, area: &[u8]) -> String {
+pub fn answer_line(name: &str, answer: Answer<Written>, area: &[u8]) -> String {
     match answer {
         Ok(Written { bytes, moves }) => {
             let (records, rest) = (records_shown(area, bytes), rest(area, bytes));

@@ -7,13 +7,18 @@ use planner::calls::Calls;
 use planner::format::{
     amount, record, HIGHEST_FEE, HIGHEST_HAUL, LONGEST_SHEET, MOST_FARMS, MOST_YARDS, RECORD, SHORTEST_SHEET, YARD,
 };
+use planner::{Answer, Counts};
 
 pub fn all(calls: &Calls) -> Vec<String> {
     [lengths(calls), counts(calls), amounts(calls), single_faults(calls), several_faults(calls)].concat()
 }
 
 pub fn read_case(calls: &Calls, name: &str, sheet: &[u8]) -> String {
-    match (calls.read)(sheet) {
+    counts_line(name, (calls.read)(sheet))
+}
+
+pub fn counts_line(name: &str, answer: Answer<Counts>) -> String {
+    match answer {
         Ok(counts) => format!("{name}: accepted, yards {}, farms {}", counts.yards, counts.farms),
         Err(number) => format!("{name}: refused {number}"),
     }

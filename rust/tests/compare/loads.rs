@@ -3,6 +3,7 @@ use super::tally::NAMES;
 use super::Name;
 use planner::calls::{PlanCall, FAST};
 use planner::format::{FARM, HAUL, MOST_AREA, OPEN, RECORD};
+use planner::Tariff;
 
 /// What one call had to do with loads.
 #[derive(Clone, Copy, Default)]
@@ -23,8 +24,8 @@ pub struct Loads {
 }
 
 impl Loads {
-    /// A plan that a call wrote, and its sheet without loads.
-    pub fn plan(&mut self, call: PlanCall, plan: &[u8], without_loads: &[u8]) {
+    /// A plan that a call wrote, its sheet without loads, and the tariff.
+    pub fn plan(&mut self, call: PlanCall, plan: &[u8], without_loads: &[u8], tariff: Tariff) {
         let seen = &mut self.calls[Name::of(call) as usize];
         let farms = plan.chunks_exact(RECORD).filter(|record| record[0] == FARM);
         let mut most = 0;
@@ -34,7 +35,7 @@ impl Loads {
         }
         if most > 1 {
             seen.plans += 1;
-            seen.other_yards += u64::from(opened(plan) != opened(&planned(call, without_loads)));
+            seen.other_yards += u64::from(opened(plan) != opened(&planned(call, without_loads, tariff)));
         }
     }
 
@@ -68,9 +69,9 @@ pub fn without_loads(sheet: &[u8]) -> Vec<u8> {
 }
 
 /// The records of a plan of an accepted sheet, by the fast program.
-fn planned(call: PlanCall, sheet: &[u8]) -> Vec<u8> {
+fn planned(call: PlanCall, sheet: &[u8], tariff: Tariff) -> Vec<u8> {
     let mut area = vec![0; MOST_AREA];
-    let written = call.put_to(&FAST, sheet, &mut area).expect("accepted with loads and without");
+    let written = call.put_by(&FAST, sheet, tariff, &mut area).expect("accepted with loads and without");
     area.truncate(written.bytes);
     area
 }

@@ -1,15 +1,17 @@
-//! Every call on one sheet: the proved library against the other implementations, area and all, byte for byte. `fast` is among
-//! them so that the benchmark's times are those of the same answers.
+//! Every call on one sheet, without a tariff or by one: the proved library against the other implementations, area and all, byte for
+//! byte. `fast` is among them so that the benchmark's times are those of the same answers.
 mod loads;
 mod tally;
+mod tariffs;
 
 use loads::{opened, without_loads};
-use planner::calls::{Calls, PlanCall, ALL};
+use planner::calls::{Calls, PlanCall, FAST, FAST_32, LIBRARY, LIBRARY_BY_NONE, LITERAL};
 use planner::format::{least_area, MOST_AREA, MOST_FARMS, MOST_YARDS, RECORD};
 use planner::random::Random;
-use planner::samples::Sample;
-use planner::{library, literal, Answer, Counts};
+use planner::samples::{Beside, Sample, TariffSample};
+use planner::{library, literal, Answer, Counts, Tariff, Written};
 pub use tally::{Name, Tally};
+use tariffs::Circumstance;
 
 /// Sheets with more records than this get a choice of sets, counts, areas and bytes only.
 const MANY_RECORDS: usize = 300;
@@ -19,16 +21,25 @@ const MARGIN: usize = 24;
 /// A failed comparison prints sheets up to this length.
 const LONGEST_PRINTED: usize = 1_024;
 
+/// Without a tariff, the library by no tariff is one of the others.
+const OTHERS: [Calls; 4] = [LIBRARY_BY_NONE, LITERAL, FAST, FAST_32];
+const OTHERS_BY: [Calls; 3] = [LITERAL, FAST, FAST_32];
+
 /// One sheet under comparison.
 struct Comparison<'a> {
-    library: &'a Calls,
     others: &'a [Calls],
     sample: &'a Sample,
+    /// None where calls without a tariff are compared.
+    tariff: Option<&'a TariffSample>,
+    /// The sheet of distances with its hauls, where reading accepts it by a tariff that is as it was made.
+    priced: Option<Vec<u8>>,
     /// The sheet before any call.
     before: Vec<u8>,
     without_loads: Vec<u8>,
     /// Where question 10 refuses the sheet, the number that it gives without loads.
     beside_10: Option<u8>,
+    /// What is true of the sheet beside the tariff where it is refused.
+    beside: Vec<Circumstance>,
     seed: u64,
     random: Random,
     tally: &'a mut Tally,
@@ -36,39 +47,75 @@ struct Comparison<'a> {
 
 /// Makes every call on the sheet, with sets, counts, areas and their bytes drawn from the seed.
 pub fn every_call(sample: &Sample, seed: u64, tally: &mut Tally) {
-    let mut comparison = Comparison::new(&ALL, sample, seed, tally);
+    let mut comparison = Comparison::new(&OTHERS, sample, None, seed, tally);
     comparison.stretches();
     comparison.reading_and_plans();
 }
 
+/// Makes every call but those for stretches, which know no tariff, by the tariff beside the sheet.
+pub fn every_call_by(beside: &Beside, seed: u64, tally: &mut Tally) {
+    Comparison::new(&OTHERS_BY, &beside.sample, Some(&beside.tariff), seed, tally).reading_and_plans();
+}
+
 impl<'a> Comparison<'a> {
-    fn new(all: &'a [Calls; 4], sample: &'a Sample, seed: u64, tally: &'a mut Tally) -> Comparison<'a> {
-        let [library, others @ ..] = all;
+    fn new(
+        others: &'a [Calls],
+        sample: &'a Sample,
+        tariff: Option<&'a TariffSample>,
+        seed: u64,
+        tally: &'a mut Tally,
+    ) -> Comparison<'a> {
         let (before, without_loads) = (sample.sheet.clone(), without_loads(&sample.sheet));
+        let (priced, beside_10, beside) = (None, None, Vec::new());
         let random = Random::new(!seed);
-        Comparison { library, others, sample, before, without_loads, beside_10: None, seed, random, tally }
+        Comparison { others, sample, tariff, priced, before, without_loads, beside_10, beside, seed, random, tally }
     }
 
     fn reading_and_plans(&mut self) {
+        let tariff_before = self.tariff.map(|tariff| tariff.bytes.clone());
         match self.reading() {
             Ok(counts) => self.plans(counts),
             Err(_) => self.refusals(),
         }
         assert!(self.before == self.sample.sheet, "a call wrote to the sheet; {}", self.sheet());
+        let tariff_after = self.tariff.map(|tariff| tariff.bytes.clone());
+        assert!(tariff_before == tariff_after, "a call wrote to the tariff; {}", self.sheet());
+    }
+
+    fn given(&self) -> Tariff<'a> {
+        self.tariff.map_or(Tariff::None, TariffSample::tariff)
+    }
+
+    fn read(&self, calls: &Calls) -> Answer<Counts> {
+        match self.tariff {
+            None => (calls.read)(&self.sample.sheet),
+            Some(tariff) => (calls.read_by)(&self.sample.sheet, tariff.tariff()),
+        }
+    }
+
+    fn put(&self, call: PlanCall, calls: &Calls, area: &mut [u8]) -> Answer<Written> {
+        match self.tariff {
+            None => call.put_to(calls, &self.sample.sheet, area),
+            Some(tariff) => call.put_by(calls, &self.sample.sheet, tariff.tariff(), area),
+        }
     }
 
     fn reading(&mut self) -> Answer<Counts> {
-        let sheet = &self.sample.sheet;
-        let answer = (self.library.read)(sheet);
+        let answer = self.read(&LIBRARY);
         for calls in self.others {
-            let (name, other) = (calls.name, (calls.read)(sheet));
+            let (name, other) = (calls.name, self.read(calls));
             assert!(answer == other, "read: library {answer:?}, {name} {other:?}; {}", self.sheet());
         }
         if let Some(made) = self.sample.reading {
             assert!(answer == made, "read: library {answer:?}, made to give {made:?}; {}", self.sheet());
         }
-        if answer == Err(10) {
-            self.beside_10 = literal::read(&self.without_loads).err();
+        match self.tariff {
+            None if answer == Err(10) => self.beside_10 = literal::read(&self.without_loads).err(),
+            None => {}
+            Some(tariff) => {
+                self.priced = (answer.is_ok() && tariff.asked.is_some()).then(|| tariff.priced(&self.sample.sheet));
+                self.beside = self.tally.tariffs.reading(tariff, &self.sample.sheet, answer.err());
+            }
         }
         self.count(Name::Read, answer.err());
         answer
@@ -76,9 +123,10 @@ impl<'a> Comparison<'a> {
 
     fn count(&mut self, name: Name, refused: Option<u8>) {
         self.tally.answer(name, refused);
-        if refused == Some(10) {
+        if refused == Some(10) && self.tariff.is_none() {
             self.tally.loads.refused(name, self.beside_10);
         }
+        self.tally.tariffs.refused(name, refused, &self.beside);
     }
 
     /// The stretches of farms below, at and above n, and their bytes to past the end.
@@ -160,14 +208,20 @@ impl<'a> Comparison<'a> {
         let pattern: Vec<u8> = (0..length + 2 * MARGIN).map(|_| self.random.draw() as u8).collect();
         let lent = MARGIN..MARGIN + length;
         let mut area = pattern.clone();
-        let answer = call.put_to(self.library, &self.sample.sheet, &mut area[lent.clone()]);
+        let answer = self.put(call, &LIBRARY, &mut area[lent.clone()]);
         let ours = || format!("{call:?} with an area of {length} bytes: library {answer:?}");
-        for calls in self.others {
+        let compare = |name: &str, put: &dyn Fn(&mut [u8]) -> Answer<Written>| {
             let mut other_area = pattern.clone();
-            let other = call.put_to(calls, &self.sample.sheet, &mut other_area[lent.clone()]);
-            let (name, difference) = (calls.name, first_difference(&area, &other_area));
+            let other = put(&mut other_area[lent.clone()]);
+            let difference = first_difference(&area, &other_area);
             let same = answer == other && difference.is_none();
             assert!(same, "{}, {name} {other:?}; {difference:?}; {}", ours(), self.sheet());
+        };
+        for calls in self.others {
+            compare(calls.name, &|area| self.put(call, calls, area));
+        }
+        if let Some(priced) = &self.priced {
+            compare("library on the priced hauls", &|area| call.put_to(&LIBRARY, priced, area));
         }
         let written = answer.map(|written| written.bytes).ok();
         let plan = MARGIN..MARGIN + written.unwrap_or(0);
@@ -177,14 +231,14 @@ impl<'a> Comparison<'a> {
         assert!(difference.is_none(), "{}; not as before the call: {difference:?}; {}", ours(), self.sheet());
         self.count(Name::of(call), answer.err());
         self.tally.moves += answer.map_or(0, |written| written.moves.into());
-        self.tally.loads.plan(call, &area[plan.clone()], &self.without_loads);
+        self.tally.loads.plan(call, &area[plan.clone()], &self.without_loads, self.given());
         self.choices(Name::of(call), &area[plan]);
         written
     }
 
     /// Counts the farms of a plan by what their yard was chosen by, as literal sees it.
     fn choices(&mut self, name: Name, plan: &[u8]) {
-        for by in literal::chosen_by(&self.sample.sheet, opened(plan)) {
+        for by in literal::chosen_by(&self.sample.sheet, self.given(), opened(plan)) {
             self.tally.choice(name, by);
         }
     }
@@ -201,7 +255,8 @@ impl<'a> Comparison<'a> {
     fn sheet(&self) -> String {
         let Sample { name, sheet, .. } = self.sample;
         let printed = sheet.iter().take(LONGEST_PRINTED).map(|byte| format!("{byte:02x}")).collect::<String>();
-        format!("seed {}, {name}, {} bytes: {printed}", self.seed, sheet.len())
+        let tariff = self.tariff.map_or(String::new(), |tariff| format!(", {}: {:02x?}", tariff.name, tariff.bytes));
+        format!("seed {}, {name}, {} bytes: {printed}{tariff}", self.seed, sheet.len())
     }
 }
 

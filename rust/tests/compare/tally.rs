@@ -1,5 +1,6 @@
 //! How many calls were compared, by call and by answer, and how many farms of their plans, by what their yard was chosen by.
 use super::loads::Loads;
+use super::tariffs::Tariffs;
 use planner::calls::PlanCall;
 use planner::literal::ChosenBy;
 
@@ -26,10 +27,12 @@ pub const NAMES: [Name; 4] = [Name::Read, Name::Price, Name::OpenPlan, Name::Lim
 #[derive(Default)]
 pub struct Tally {
     /// For each call, how often it was accepted (place 0) and refused with each number.
-    answers: [[u64; 11]; 4],
+    answers: [[u64; 14]; 4],
     /// For each call, the farms of its plans by `ChosenBy`.
     chosen: [[u64; 3]; 4],
     pub loads: Loads,
+    /// Of calls by a tariff.
+    pub tariffs: Tariffs,
     /// Of all accepted calls.
     pub moves: u64,
     pub whole_stretches: u64,
@@ -81,6 +84,7 @@ impl Tally {
             println!("{:>12} {chosen:?}", format!("{name:?}"));
         }
         self.loads.print();
+        self.tariffs.print();
         let Tally { moves, whole_stretches, empty_stretches, bytes, .. } = self;
         println!("{moves} moves");
         println!("{whole_stretches} whole stretches, {empty_stretches} empty ones, {bytes} bytes of them");

@@ -1,5 +1,6 @@
-//! What each set of a sheet's yards costs, for either buyer with the same loads, and the sets next to a set.
+//! What each set of a sheet's yards costs, for either buyer with the same loads and by the same tariff, and the sets next to a set.
 use planner::format::{amount, RECORD};
+use planner::samples::TariffSample;
 
 /// A set is a place in the lists: its bit i marks yard i. Place 0, the empty set, is not used.
 pub struct Prices {
@@ -9,14 +10,18 @@ pub struct Prices {
 }
 
 impl Prices {
-    /// The prices of an accepted sheet, read off its amounts and off byte 3 of its hauls, where 0 is read as 1.
-    pub fn of(sheet: &[u8], yards: usize) -> Prices {
-        let amounts: Vec<u64> = sheet.chunks(RECORD).map(|record| amount(record).into()).collect();
+    /// The prices of an accepted sheet, read off its amounts and off byte 3 of its hauls, where 0 is read as 1. By a tariff
+    /// the amounts of hauls are distances, and each costs the sum over bands of what lies inside times the rate.
+    pub fn of(sheet: &[u8], yards: usize, tariff: Option<&TariffSample>) -> Prices {
+        let amounts: Vec<u32> = sheet.chunks(RECORD).map(amount).collect();
         let (fees, hauls) = amounts.split_at(yards);
+        let fees: Vec<u64> = fees.iter().map(|&fee| fee.into()).collect();
+        let price = |&amount: &u32| tariff.map_or(amount.into(), |tariff| tariff.haul(amount));
+        let hauls: Vec<u64> = hauls.iter().map(price).collect();
         let marked = |set: usize, list: &[u64]| -> Vec<u64> {
             (0..yards).filter(|yard| set >> yard & 1 == 1).map(|yard| list[yard]).collect()
         };
-        let fees_of = |set| marked(set, fees).iter().sum();
+        let fees_of = |set| marked(set, &fees).iter().sum();
         let loads = loads(sheet, yards);
         let hauls_of = |set| {
             let nearest = hauls.chunks(yards).filter_map(|farm| marked(set, farm).into_iter().min());

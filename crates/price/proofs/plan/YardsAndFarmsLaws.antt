@@ -20,7 +20,7 @@ use Rattle.questions.specs.Sheet.{fee, farmByte, loadsOf, instanceBy}
 use Rattle.record.proofs.SpliceLaws.{length-bytes, splice-turn}
 use Rattle.price.specs.Plan.{openRecord, farmRecord, openKind}
 use Rattle.price.proofs.SheetCostLaws.{summed-same, fees-sum, hauls-sum}
-use Rattle.price.proofs.WriteLaws.{PutSoFar, filled-none, filled-more, filled-same}
+use Rattle.record.proofs.WriteLaws.{PutSoFar, filled-none, filled-more, filled-same}
 use Rattle.price.proofs.PlanRecordLaws.{closed-record, opened-record, open-short, farm-short, farm-record-length, opens-length}
 
 module _ (s : List ℕ) (m n set : ℕ) where

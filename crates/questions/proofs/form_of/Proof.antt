@@ -2,7 +2,7 @@
 use Prim.Native.Nat.{ℕ}
 use mathlib.Core.Path.{sym, ap₂, _∙_}
 use Rattle.model.proofs.Bools.{said-no, said-yes}
-use Rattle.questions.specs.Answers.{accepted}
+use Rattle.model.specs.Answers.{accepted}
 use Rattle.questions.specs.Reading.{counts}
 use Rattle.questions.proofs.ReadingLaws.{form-1, form-2, form-3, form-4, form-yes}
 use Rattle.questions.proofs.FormLaws.{some-yards, few-yards}

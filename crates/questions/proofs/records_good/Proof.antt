@@ -6,7 +6,7 @@ use native.Mathlib.Omega.{arith}
 use Rattle.model.proofs.Bools.{said-no, said-yes}
 use Rattle.model.specs.Loops.{allBelow}
 use Rattle.model.proofs.LoopLaws.{all-none, all-more, all-stops}
-use Rattle.questions.specs.Sheet.{records}
+use Rattle.record.specs.Records.{records}
 use Rattle.questions.specs.Questions.{wellFormedAt, question2}
 use Rattle.record.proofs.RecordLaws.{whole}
 use Rattle.questions.proofs.QuestionLaws.{well-formed-read}

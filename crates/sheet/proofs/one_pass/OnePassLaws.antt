@@ -13,9 +13,9 @@ use Rattle.model.proofs.Bools.{and-left, and-right, and-both}
 use Rattle.model.proofs.LoopLaws.{all-at, all-from, all-stops, leading-reaches}
 use Rattle.four_point.specs.Table.{costLimit}
 use Rattle.record.specs.declared.Record.{Record}
-use Rattle.record.specs.Records.{recordAt}
+use Rattle.record.specs.Records.{records, recordAt}
 use Rattle.questions.specs.Bounds.{yardKind, haulKind, mostYards, mostFarms, mostLoads, mostFee, mostHaul}
-use Rattle.questions.specs.Sheet.{records, isYard, yards, hauls, farms, place, haul, loadsByte, farmByte}
+use Rattle.questions.specs.Sheet.{isYard, yards, hauls, farms, place, haul, loadsByte, farmByte}
 use Rattle.questions.specs.Shape.{Shape}
 use Rattle.questions.specs.Questions.{question1, question2, question3, question4, question10, question5, wellFormed, wellFormedAt, numbered, noYardAfter, haulInPlace, farmInPlace, haulLoaded, farmLoaded, amountWithin}
 use Rattle.sheet.specs.OnePass.{recordIs, goodYard, goodYards, goodHaul, goodFarm, Passes}

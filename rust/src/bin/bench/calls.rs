@@ -2,12 +2,12 @@
 use planner::calls::{Calls, PlanCall, ALL};
 use planner::format::MOST_AREA;
 use planner::samples::Sample;
-use planner::{Answer, Counts, Written};
+use planner::{Answer, Counts, Tariff, Written};
 
 /// Every second yard.
 const SIXTEEN_YARDS: u32 = 0x5555_5555;
-pub const OPEN_PLAN: Call = Call::Plan(PlanCall::OpenPlan);
-pub const CALLS: [Call; 5] = [
+pub const OPEN_PLAN: Call<'static> = Call::Plan(PlanCall::OpenPlan);
+pub const CALLS: [Call<'static>; 5] = [
     Call::Read,
     Call::Plan(PlanCall::Price { set: SIXTEEN_YARDS }),
     OPEN_PLAN,
@@ -16,9 +16,11 @@ pub const CALLS: [Call; 5] = [
 ];
 
 #[derive(Clone, Copy)]
-pub enum Call {
+pub enum Call<'a> {
     Read,
     Plan(PlanCall),
+    ReadBy(Tariff<'a>),
+    PlanBy(PlanCall, Tariff<'a>),
 }
 
 #[derive(Debug, PartialEq, Eq)]
@@ -27,24 +29,34 @@ pub enum Outcome {
     Written(Answer<Written>),
 }
 
-impl Call {
+impl Call<'_> {
     pub fn name(self) -> String {
         match self {
-            Call::Read => "read".to_string(),
-            Call::Plan(PlanCall::Price { set }) => format!("price, {} yards", set.count_ones()),
-            Call::Plan(PlanCall::OpenPlan) => "open plan".to_string(),
-            Call::Plan(PlanCall::LimitedPlan { k }) => format!("limited plan, k = {k}"),
+            Call::Read | Call::ReadBy(_) => "read".to_string(),
+            Call::Plan(call) | Call::PlanBy(call, _) => match call {
+                PlanCall::Price { set } => format!("price, {} yards", set.count_ones()),
+                PlanCall::OpenPlan => "open plan".to_string(),
+                PlanCall::LimitedPlan { k } => format!("limited plan, k = {k}"),
+            },
         }
     }
 
-    pub fn searches(self) -> bool {
-        matches!(self, Call::Plan(PlanCall::OpenPlan | PlanCall::LimitedPlan { .. }))
+    /// What the fast program has in fewer bits, where it makes a difference.
+    pub fn narrower(self) -> Option<&'static str> {
+        match self {
+            Call::Read | Call::Plan(PlanCall::Price { .. }) => None,
+            Call::Plan(_) => Some("  sums of 32 bits"),
+            Call::ReadBy(_) | Call::PlanBy(PlanCall::Price { .. }, _) => Some("  prices of 16 bits"),
+            Call::PlanBy(..) => Some("  sums of 32 bits, prices of 16"),
+        }
     }
 
     pub fn put_to(self, calls: &Calls, sheet: &[u8], area: &mut [u8]) -> Outcome {
         match self {
             Call::Read => Outcome::Counts((calls.read)(sheet)),
             Call::Plan(call) => Outcome::Written(call.put_to(calls, sheet, area)),
+            Call::ReadBy(tariff) => Outcome::Counts((calls.read_by)(sheet, tariff)),
+            Call::PlanBy(call, tariff) => Outcome::Written(call.put_by(calls, sheet, tariff, area)),
         }
     }
 }

@@ -1,5 +1,5 @@
 //! The sheets that the calls are timed on.
-use planner::format::{HIGHEST_HAUL, MOST_FARMS, MOST_LOADS, MOST_YARDS, RECORD};
+use planner::format::{band, HIGHEST_HAUL, HOUSE, MOST_BANDS, MOST_FARMS, MOST_LOADS, MOST_YARDS, RECORD};
 use planner::random::Random;
 use planner::samples::{self, Sample};
 
@@ -9,6 +9,10 @@ pub const SHEETS: u64 = 120;
 pub const SPAN: u32 = 700_000;
 /// With high fees open plans have few yards, with low ones many, by many moves.
 pub const FEES: [u32; 2] = [3_000_000, 300_000];
+/// The side of the square of distances, in hundreds of metres, and its fees.
+pub const SIDE: u32 = 2_700;
+const DISTANCE_FEES: [u32; 2] = [300_000, 30_000];
+const LAST_END: u16 = HOUSE[HOUSE.len() - 1].0;
 /// Hauls of so few cents are 0 in the units in which question 6 is asked first.
 const LOW_HAUL: u32 = 20;
 
@@ -35,6 +39,29 @@ pub fn low_hauls() -> Vec<Sample> {
         Sample { name: format!("low hauls, seed {seed}"), sheet: table.sheet(), reading: None }
     };
     (0..SHEETS).map(sheet).collect()
+}
+
+/// Accepted sheets of full size whose amounts are distances, in a square whose corners are nearly as far apart as the house tariff
+/// goes. Fees are of the size of hauls, high and low in turn.
+pub fn distances() -> Vec<Sample> {
+    let sheet = |seed: u64| {
+        let mut random = Random::new(seed);
+        let highest_fee = DISTANCE_FEES[(seed % 2) as usize];
+        let mut table = samples::plane(&mut random, MOST_YARDS, MOST_FARMS, SIDE, highest_fee);
+        table.loads.fill_with(|| random.between(1, MOST_LOADS.into()) as u8);
+        Sample { name: format!("distances, seed {seed}"), sheet: table.sheet(), reading: None }
+    };
+    (0..SHEETS).map(sheet).collect()
+}
+
+/// A tariff of sixteen bands over the same distances as the house tariff, rates falling from 48 to 18 cents.
+pub fn sixteen_bands() -> Vec<u8> {
+    let width = LAST_END / MOST_BANDS as u16;
+    let record = |number: usize| {
+        let start = width * number as u16;
+        band(number, start, start + width, 48 - 2 * number as u16)
+    };
+    (0..MOST_BANDS).flat_map(record).collect()
 }
 
 /// Each sheet with a fault in its last record: the question that it fails, and what is wrong.

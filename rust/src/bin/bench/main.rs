@@ -1,4 +1,4 @@
-//! How long each call takes: the proved library (ours), document 01 with papers 1 and 2 to the letter (literal), and plain
+//! How long each call takes: the proved library (ours), document 01 with papers 1, 2 and 3 to the letter (literal), and plain
 //! Rust made for speed (fast), its sums of 64 bits as the library's are, or of 32. Before a call is timed, all must give
 //! the same answers and the same areas.
 mod calls;
@@ -7,9 +7,11 @@ mod printing;
 mod timing;
 
 use calls::{compare, Call, CALLS, OPEN_PLAN};
-use inputs::{FEES, SHEETS, SPAN};
+use inputs::{FEES, SHEETS, SIDE, SPAN};
+use planner::calls::PlanCall;
 use planner::format::{MOST_FARMS, MOST_LOADS, MOST_YARDS};
 use planner::samples::{self, Sample};
+use planner::Tariff;
 use printing::{print_call, print_four_loops, print_heading};
 use std::process::ExitCode;
 use timing::{LONG_PASSES, PASSES};
@@ -31,7 +33,7 @@ fn bench() -> Result<(), String> {
     println!("Microseconds of whole calls, made on one sheet after the other: mean over the sheets; of a sheet the median of");
     println!("{PASSES} passes, {LONG_PASSES} of literal and of four loops. Ratios: of the means (lowest to highest of a sheet).");
     println!("Ours: the proved library. Literal: document 01 to the letter in Rust. Fast: plain Rust made for speed, with sums of");
-    println!("64 bits as ours has them; of searches a second line has it with sums of 32.");
+    println!("64 bits and prices by lines as ours has them; where it makes a difference, a second line has it in narrower numbers.");
     print_heading("Accepted sheets");
     for call in CALLS {
         line(&call.name(), call, &full, None)?;
@@ -41,6 +43,15 @@ fn bench() -> Result<(), String> {
     let without_loads = inputs::full_sheets(false);
     for call in CALLS {
         line(&call.name(), call, &without_loads, None)?;
+    }
+    print_heading(&format!(
+        "Sheets of distances by tariffs, loads as above, in a square of side {SIDE} hundreds of metres"
+    ));
+    let (distances, sixteen) = (inputs::distances(), inputs::sixteen_bands());
+    for (name, tariff) in [("house tariff", Tariff::House), ("16 bands", Tariff::Given(&sixteen))] {
+        for call in [Call::ReadBy(tariff), Call::PlanBy(PlanCall::OpenPlan, tariff)] {
+            line(&format!("{}, {name}", call.name()), call, &distances, None)?;
+        }
     }
     print_heading("Other sheets");
     line("read, every two yards by the cent", Call::Read, &inputs::low_hauls(), None)?;

@@ -12,8 +12,8 @@ pub fn print_heading(title: &str) {
     println!("{:<40} {:>9} {:>11} {:>9}   {:<28} ours/fast", "", "ours", "literal", "fast", "ours/literal");
 }
 
-/// The times of a call of the implementations on each sheet in turn. Of a search a second line has the fast program with sums of
-/// 32 bits.
+/// The times of a call of the implementations on each sheet in turn. Where it makes a difference, a second line has the fast program
+/// in narrower numbers.
 pub fn print_call(name: &str, call: Call, inputs: &[Sample]) {
     let [ours, literal, fast, fast_32] = ALL.each_ref().map(|calls: &Calls| {
         move |at: usize, area: &mut [u8]| {
@@ -25,9 +25,9 @@ pub fn print_call(name: &str, call: Call, inputs: &[Sample]) {
     let [ours, literal, fast, fast_32] = [0, 1, 2, 3].map(|of| mean(&times, of));
     let (by_literal, by_fast) = (ratios(&times, 0, 1, 4), ratios(&times, 0, 2, 2));
     println!("{name:<40} {ours:>9.2} {literal:>11.2} {fast:>9.2}   {by_literal:<28} {by_fast}");
-    if call.searches() {
+    if let Some(narrower) = call.narrower() {
         let by_fast_32 = ratios(&times, 0, 3, 2);
-        println!("{:<40} {:>9} {:>11} {fast_32:>9.2}   {:<28} {by_fast_32}", "  sums of 32 bits", "", "", "");
+        println!("{narrower:<40} {:>9} {:>11} {fast_32:>9.2}   {:<28} {by_fast_32}", "", "", "");
     }
 }
 

@@ -5,7 +5,7 @@ use mathlib.Core.Path.{ap, _∙_}
 use Rattle.record.specs.Records.{recordOf, splice}
 use Rattle.price.proofs.NearestLaws.{farm-yards}
 use Rattle.price.proofs.SheetCostLaws.{loads-small}
-use Rattle.price.proofs.WriteLaws.{put-one}
+use Rattle.record.proofs.WriteLaws.{put-one}
 use Rattle.price.proofs.PlanRecordLaws.{farm-on, farm-from}
 use borrow.Author.Needs.{needs}
 use Rattle.price.proofs.plan.put_farm.Statement.{statement}

@@ -2,7 +2,7 @@
 use mathlib.Core.Path.{sym, ap, _∙_}
 use Rattle.record.specs.Records.{recordOf, splice}
 use Rattle.price.proofs.SheetCostLaws.{yard-fee}
-use Rattle.price.proofs.WriteLaws.{put-one}
+use Rattle.record.proofs.WriteLaws.{put-one}
 use Rattle.price.proofs.PlanRecordLaws.{open-on}
 use borrow.Author.Needs.{needs}
 use Rattle.price.proofs.plan.put_open.Statement.{statement}

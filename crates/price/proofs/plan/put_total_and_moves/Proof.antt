@@ -1,7 +1,7 @@
 -- `put_total_and_moves` meets its contract: two records, one behind the other.
 use native.Mathlib.Omega.{arith}
 use Rattle.price.specs.Plan.{movesRecord}
-use Rattle.price.proofs.WriteLaws.{put-two}
+use Rattle.record.proofs.WriteLaws.{put-two}
 use borrow.Author.Needs.{needs}
 use Rattle.price.proofs.plan.put_total_and_moves.Statement.{statement}
 use Rattle.price.proofs.plan.put_total_and_moves.Tie as tie

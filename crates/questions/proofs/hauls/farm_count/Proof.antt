@@ -2,7 +2,7 @@
 use native.Mathlib.Omega.{arith}
 use mathlib.Core.Path.{sym, ap, _∙_}
 use Prim.Native.Nat.{ℕ, _-_, _/_}
-use Rattle.questions.specs.Sheet.{records}
+use Rattle.record.specs.Records.{records}
 use Rattle.questions.proofs.FormLaws.{yards-le, farms-are-hauls}
 use borrow.Author.Needs.{needs}
 use Rattle.questions.proofs.hauls.farm_count.Statement.{statement}

@@ -5,7 +5,8 @@ use native.Mathlib.Omega.{arith}
 use borrow.Author.Tests.{eq-eqb, ne-eqb}
 use Rattle.model.specs.Loops.{leading}
 use Rattle.model.proofs.LoopLaws.{leading-none, leading-more, leading-stops}
-use Rattle.questions.specs.Sheet.{records, isYard, yards}
+use Rattle.record.specs.Records.{records}
+use Rattle.questions.specs.Sheet.{isYard, yards}
 use Rattle.record.proofs.RecordLaws.{whole}
 use Rattle.questions.proofs.QuestionLaws.{yard-read}
 use Rattle.questions.proofs.yards.leading_yards.Statement.{statement}

@@ -6,7 +6,7 @@ use native.Mathlib.Omega.{arith}
 use lib.ListN.{getD-replicate}
 use borrow.Author.Needs.{needs}
 use Rattle.model.proofs.PlaceLaws.{few-places}
-use Rattle.questions.specs.Answers.{accepted}
+use Rattle.model.specs.Answers.{accepted}
 use Rattle.questions.specs.Sheet.{farmByte, instanceBy}
 use Rattle.questions.proofs.AcceptedLaws.{accepts, shape-of}
 use Rattle.price.proofs.PricingLaws.{as-outcome}

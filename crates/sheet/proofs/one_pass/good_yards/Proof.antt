@@ -7,8 +7,9 @@ use borrow.Author.Tests.{eq-eqb, ne-eqb}
 use Rattle.model.specs.Loops.{allBelow, leading}
 use Rattle.model.proofs.Bools.{said-no, said-yes}
 use Rattle.model.proofs.LoopLaws.{all-none, all-more, leading-none, leading-more, leading-stops}
+use Rattle.record.specs.Records.{records}
 use Rattle.questions.specs.Bounds.{mostYards}
-use Rattle.questions.specs.Sheet.{records, isYard, yards}
+use Rattle.questions.specs.Sheet.{isYard, yards}
 use Rattle.questions.proofs.QuestionLaws.{yard-read}
 use Rattle.sheet.specs.OnePass.{goodYard}
 use Rattle.sheet.proofs.one_pass.OnePassLaws.{yard-tested, yards-good, yards-many, yards-bad}

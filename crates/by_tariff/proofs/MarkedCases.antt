@@ -1,5 +1,5 @@
 -- The marked cases of documents 01 and 02 as one table: what each call gives, computed from the definitions, is the answer beside it.
-use Prim.Native.Nat.{ℕ}
+use Prim.Native.Nat.{ℕ, _+_, _*_, _/_, _%_}
 use mathlib.Core.Path.{_≡_, refl}
 use mathlib.Core.List.{List, [], _∷_, _++_}
 use Rattle.model.specs.Loops.{allBelow, leading, sum, join}
@@ -10,14 +10,22 @@ use Rattle.model.specs.Neighbours.{addAt, adds, dropAt, drops, swapAt, swapsOut
 use Rattle.model.specs.Search.{better, best, next, descend, search}
 use Rattle.model.specs.Plans.{openCost, openStart, openSearch, limitedCost, limitedStart, limitedSearch}
 use Rattle.record.specs.Records.{recordOf, recordAt, bytesOf}
-use Rattle.questions.specs.Answers.{Answer, accepted, refused}
+use Rattle.model.specs.Answers.{Answer, accepted, refused}
 use Rattle.questions.specs.Sheet.{isYard, yards, hauls, farms, fee, haul, loadsByte, instanceOf, instanceBy}
 use Rattle.questions.specs.Questions.{question1, question2, wellFormed, wellFormedAt, question3, numbered, noYardAfter, question4, haulInPlace, farmInPlace, question10, haulLoaded, farmLoaded, question5, amountWithin, question6}
 use Rattle.questions.specs.Reading.{Counts, counts, form, formAndLoads, reading}
+use Rattle.tariff.specs.Bands.{inside, charge, haulBy, lastEnd}
+use Rattle.tariff.specs.Questions.{bandOf, bandAt, tariffLength, inPlace, bandInPlace, question11, noRise, question12}
+use Rattle.tariff.specs.Reading.{bandsOf, tariffReading}
+use Rattle.tariff.specs.declared.TariffChoice.{TariffChoice}
+use Rattle.tariff.specs.declared.TariffChoice.the-variants.{NoTariff, HouseTariff, GivenTariff}
+use Rattle.distances.specs.Priced.{pricedRecord, pricedAt, pricedSheet, question13, pricedBy, underGiven, sheetBy, readingBy}
 use Rattle.price.specs.Plan.{openRecord, farmRecord, totalRecord, movesRecord, planBytes, question9}
 use Rattle.price.specs.Pricing.{Plan, question8, pricing}
+use Rattle.price.specs.PricingBy.{pricingBy}
 use Rattle.search.specs.SearchEnds.{settledAt, openEnd, limitedEnd, planOf}
 use Rattle.search.specs.Planning.{openPlan, limitedPlan, question7, openPlanning, limitedPlanning}
+use Rattle.by_tariff.specs.PlanningBy.{openPlanningBy, limitedPlanningBy}
 
 -- ---- the sheets
 
@@ -47,6 +55,23 @@ loaded b c d =
 sheetS : List ℕ
 sheetS = loaded 0 0 0
 
+-- document 02, paper 3: one farm at this distance from the only yard, which has this fee; byte 3 of its record
+oneDistance : ℕ → ℕ → ℕ → List ℕ
+oneDistance fee byte3 distance = yard 0 fee ++ haulTo 0 0 byte3 distance
+
+-- ---- the tariffs
+
+band : ℕ → ℕ → ℕ → ℕ → List ℕ
+band i start end rate = bytesOf (recordOf 0x42 i (start % 256) (start / 256) (end + 65536 * rate))
+
+-- two bands of these rates, the second from this start up to 1000
+twoBands : ℕ → ℕ → ℕ → List ℕ
+twoBands rate start lower = band 0 0 100 rate ++ band 1 start 1000 lower
+
+-- one band of the highest end and the highest rate
+highest : List ℕ
+highest = band 0 0 65535 65535
+
 -- ---- the calls, and what they give: the counts, or a plan's records and moves, or a number
 
 pub data Call : Type 0 where
@@ -54,6 +79,10 @@ pub data Call : Type 0 where
   prices : List ℕ → ℕ → Call
   plans : List ℕ → Call
   plansLimited : List ℕ → ℕ → Call
+  readsBy : TariffChoice → List ℕ → List ℕ → Call
+  pricesBy : TariffChoice → List ℕ → List ℕ → ℕ → Call
+  plansBy : TariffChoice → List ℕ → List ℕ → Call
+  plansLimitedBy : TariffChoice → List ℕ → List ℕ → ℕ → Call
 
 pub data Given : Type 0 where
   readAnswer : Answer Counts → Given
@@ -68,6 +97,10 @@ given (reads s) = readAnswer (reading s)
 given (prices s set) = planAnswer (pricing s set room)
 given (plans s) = planAnswer (openPlanning s room)
 given (plansLimited s k) = planAnswer (limitedPlanning s k room)
+given (readsBy choice tariff s) = readAnswer (readingBy choice tariff s)
+given (pricesBy choice tariff s set) = planAnswer (pricingBy choice tariff s set room)
+given (plansBy choice tariff s) = planAnswer (openPlanningBy choice tariff s room)
+given (plansLimitedBy choice tariff s k) = planAnswer (limitedPlanningBy choice tariff s k room)
 
 -- ---- the records of a plan
 
@@ -138,6 +171,41 @@ table =
     -- the rule is about one load
     ∷ case (reads (twoYards 1 20 3)) (readAnswer (accepted (counts 2 2)))
     ∷ case (reads (twoYards 20 1 4)) (readAnswer (refused 6))
+    -- paper 3, "A distance of 120 costs 4,680" by the house tariff, and by a given one 100 at 40 and 20 at 7; the fee is not priced
+    ∷ case (pricesBy HouseTariff [] (oneDistance 7 0 120) 1) (gives (opened 0 7 ++ served 0 0 4680 ++ ends 1 1 4687 0) 0)
+    ∷ case (plansBy HouseTariff [] (oneDistance 7 2 120)) (gives (opened 0 7 ++ brings 0 0 2 4680 ++ ends 1 1 9367 0) 0)
+    ∷ case (plansLimitedBy HouseTariff [] (oneDistance 7 0 120) 1) (gives (opened 0 7 ++ served 0 0 4680 ++ ends 1 1 4680 0) 0)
+    ∷ case (plansBy GivenTariff (twoBands 40 100 7) (oneDistance 7 0 120)) (gives (opened 0 7 ++ served 0 0 4140 ++ ends 1 1 4147 0) 0)
+    -- by none the amount is the haul
+    ∷ case (plansBy NoTariff (twoBands 40 100 7) (oneDistance 7 0 120)) (gives (opened 0 7 ++ served 0 0 120 ++ ends 1 1 127 0) 0)
+    -- no band, an odd length, another kind, another number, a gap, an overlap, an empty band, a first band that does not start at 0
+    ∷ case (readsBy GivenTariff [] sheetS) (readAnswer (refused 11))
+    ∷ case (readsBy GivenTariff (highest ++ 0 ∷ []) sheetS) (readAnswer (refused 11))
+    ∷ case (readsBy GivenTariff (yard 0 0) sheetS) (readAnswer (refused 11))
+    ∷ case (readsBy GivenTariff (band 1 0 100 40) sheetS) (readAnswer (refused 11))
+    ∷ case (readsBy GivenTariff (twoBands 40 101 7) sheetS) (readAnswer (refused 11))
+    ∷ case (readsBy GivenTariff (twoBands 40 99 7) sheetS) (readAnswer (refused 11))
+    ∷ case (readsBy GivenTariff (band 0 0 0 40) sheetS) (readAnswer (refused 11))
+    ∷ case (readsBy GivenTariff (band 0 1 100 40) sheetS) (readAnswer (refused 11))
+    -- a rate above the band before it; 11 comes first; both ahead of question 1, which a good tariff lets through to
+    ∷ case (plansBy GivenTariff (twoBands 40 100 41) (oneDistance 7 0 120)) (refuses 12)
+    ∷ case (plansBy GivenTariff (twoBands 40 101 41) (oneDistance 7 0 120)) (refuses 11)
+    ∷ case (pricesBy GivenTariff (twoBands 40 99 7) [] 1) (refuses 11)
+    ∷ case (plansLimitedBy GivenTariff (twoBands 40 100 41) [] 0) (refuses 12)
+    ∷ case (readsBy GivenTariff (twoBands 40 100 40) []) (readAnswer (refused 1))
+    -- the last end, and past it; 10 before 13, 13 before 5
+    ∷ case (readsBy HouseTariff [] (oneDistance 7 0 4000)) (readAnswer (accepted (counts 1 1)))
+    ∷ case (readsBy HouseTariff [] (oneDistance 7 0 4001)) (readAnswer (refused 13))
+    ∷ case (readsBy GivenTariff (twoBands 40 100 0) (oneDistance 7 0 1001)) (readAnswer (refused 13))
+    ∷ case (readsBy HouseTariff [] (oneDistance 7 21 4001)) (readAnswer (refused 10))
+    ∷ case (readsBy HouseTariff [] (oneDistance 50000001 0 4001)) (readAnswer (refused 13))
+    ∷ case (readsBy HouseTariff [] (oneDistance 50000001 0 4000)) (readAnswer (refused 5))
+    -- question 5 of the haul: 15 and 16 times 65,535
+    ∷ case (readsBy GivenTariff highest (oneDistance 7 0 15)) (readAnswer (accepted (counts 1 1)))
+    ∷ case (readsBy GivenTariff highest (oneDistance 7 0 16)) (readAnswer (refused 5))
+    -- question 6 of the hauls: distances 1, 1, 1, 4 break the rule, and cost 40 each by the one tariff and 40, 40, 40, 160 by the other
+    ∷ case (readsBy GivenTariff (band 0 0 1 40 ++ band 1 1 1000 0) (twoYards 0 0 4)) (readAnswer (accepted (counts 2 2)))
+    ∷ case (readsBy GivenTariff (twoBands 40 100 7) (twoYards 0 0 4)) (readAnswer (refused 6))
     ∷ []
 
 pub expected : List Case → List Given
@@ -149,5 +217,5 @@ computed [] = []
 computed (c ∷ cs) = given (c .call) ∷ computed cs
 
 pub marked-cases : computed table ≡ expected table
-unfolding table case gives refuses ends served brings opened given room sheetS loaded twoYards equalHauls haulTo yard expected computed bytesOf recordAt wellFormed reading formAndLoads form question1 question2 wellFormedAt question3 numbered noYardAfter question4 haulInPlace farmInPlace question10 haulLoaded farmLoaded question5 amountWithin question6 isYard yards hauls farms fee haul loadsByte instanceOf instanceBy allBelow leading sum join any least arg member with without metric fourPointBPQ fourPointPQ fourPointQ fourPoint nearest atNearest assigned openingCost serviceCost totalCost addAt adds dropAt drops swapAt swapsOut swaps addDropSwap better best next descend search openCost openStart openSearch limitedCost limitedStart limitedSearch openRecord farmRecord totalRecord movesRecord planBytes question9 question8 pricing openEnd limitedEnd settledAt planOf openPlan limitedPlan question7 openPlanning limitedPlanning
+unfolding table case band twoBands highest oneDistance gives refuses ends served brings opened given room sheetS loaded twoYards equalHauls haulTo yard expected computed bytesOf recordAt wellFormed reading formAndLoads form question1 question2 wellFormedAt question3 numbered noYardAfter question4 haulInPlace farmInPlace question10 haulLoaded farmLoaded question5 amountWithin question6 isYard yards hauls farms fee haul loadsByte instanceOf instanceBy allBelow leading sum join any least arg member with without metric fourPointBPQ fourPointPQ fourPointQ fourPoint nearest atNearest assigned openingCost serviceCost totalCost addAt adds dropAt drops swapAt swapsOut swaps addDropSwap better best next descend search openCost openStart openSearch limitedCost limitedStart limitedSearch openRecord farmRecord totalRecord movesRecord planBytes question9 question8 pricing openEnd limitedEnd settledAt planOf openPlan limitedPlan question7 openPlanning limitedPlanning inside charge haulBy lastEnd bandOf bandAt tariffLength inPlace bandInPlace question11 noRise question12 bandsOf tariffReading pricedRecord pricedAt pricedSheet question13 pricedBy underGiven sheetBy readingBy pricingBy openPlanningBy limitedPlanningBy
 marked-cases = refl

@@ -1,14 +1,14 @@
-//! What the tool says: the fault of every kind of refused call, and the exit statuses.
+//! What the tool says: here the fault of every kind of refused call without a tariff, in `tariffs` those of tariffs and distances,
+//! in `agreement` that the tool and the library agree on damaged ones, in `commands` what the command line is answered.
+mod agreement;
+mod commands;
+mod tariffs;
+
 use planner::format::record;
-use planner::random::Random;
 use planner::table::Table;
 use planner::words::refusal::{explained, first_fault, Given};
 use planner::words::{outcome, said, Names, Request};
-use planner::{library, Answer};
-use std::collections::BTreeMap;
-use std::fs;
-use std::path::Path;
-use std::process::{Command, Output};
+use planner::{library, Answer, Tariff};
 
 /// Document 01's sheet S: records 0 to 2 are yards, farm p's haul to yard y is record 3 + 3 p + y.
 fn s() -> Table {
@@ -65,10 +65,10 @@ fn shorter(records: usize) -> Vec<u8> {
 fn number(sheet: &[u8], given: &Given) -> Option<u8> {
     let mut area = vec![0; given.area.unwrap_or(0)];
     let answer: Answer<()> = match (given.area, given.k, given.set) {
-        (None, ..) => library::read(sheet).map(|_| ()),
-        (_, Some(k), _) => library::limited_plan(sheet, k, &mut area).map(|_| ()),
-        (_, _, Some(set)) => library::price(sheet, set, &mut area).map(|_| ()),
-        _ => library::open_plan(sheet, &mut area).map(|_| ()),
+        (None, ..) => library::read_by(sheet, given.tariff).map(|_| ()),
+        (_, Some(k), _) => library::limited_plan_by(sheet, given.tariff, k, &mut area).map(|_| ()),
+        (_, _, Some(set)) => library::price_by(sheet, given.tariff, set, &mut area).map(|_| ()),
+        _ => library::open_plan_by(sheet, given.tariff, &mut area).map(|_| ()),
     };
     answer.err()
 }
@@ -160,34 +160,6 @@ fn every_fault_of_what_is_given_beside_a_sheet_is_found() {
     assert_fault(&shorter(1), Given { k: Some(0), area: Some(0), ..lent }, 4, &[], "left over 2");
 }
 
-/// Several faults at once, anywhere: the tool finds the library's question, and nothing where the library accepts.
-#[test]
-fn the_tool_and_the_library_agree_on_damaged_sheets() {
-    let mut random = Random::new(1);
-    let mut seen = BTreeMap::new();
-    for _ in 0..20_000 {
-        let (yards, farms) = (random.between(1, 4), random.between(1, 5));
-        let amounts = |random: &mut Random| (0..yards).map(|_| random.between(4, 8) as u32).collect::<Vec<_>>();
-        let mut table = Table::new(amounts(&mut random), (0..farms).map(|_| amounts(&mut random)).collect());
-        table.loads.fill_with(|| random.between(0, 20) as u8);
-        let mut sheet = table.sheet();
-        for _ in 0..random.between(0, 3) {
-            let at = random.between(0, sheet.len() as u64 - 1) as usize;
-            sheet[at] = *[0, 1, 2, 3, 16, 0x48, 0x59, 255].get(random.between(0, 7) as usize).unwrap();
-        }
-        sheet.truncate(sheet.len() - if random.one_in(9) { random.between(1, 16) as usize } else { 0 });
-        let (k, set) = (random.between(0, 5) as usize, random.between(0, 20) as u32);
-        let (k, set) = if random.one_in(2) { (Some(k), None) } else { (None, Some(set)) };
-        let given = Given { k, set, area: Some(random.between(50, 100) as usize) };
-        let found = first_fault(&sheet, &given, &Names::default()).map(|fault| fault.question);
-        assert_eq!(found, number(&sheet, &given), "{sheet:?} {given:?}");
-        *seen.entry(found).or_insert(0) += 1;
-    }
-    for question in std::iter::once(None).chain((1..=10).map(Some)) {
-        assert!(seen.get(&question).is_some_and(|&times| times >= 50), "{question:?} in {seen:?}");
-    }
-}
-
 #[test]
 fn a_number_without_its_fault_is_called_a_defect() {
     let cases = [
@@ -206,15 +178,19 @@ fn a_number_without_its_fault_is_called_a_defect() {
 
 #[test]
 fn a_refusal_names_yards_and_farms() {
-    let names = Names { yards: vec!["North".into(), "South".into()], farms: vec!["Hill".into(), "Mill".into()] };
-    let said = said(Request::OpenPlan, &with_hauls([[1, 1], [1, 4]]), &names);
+    let names = Names {
+        yards: vec!["North".into(), "South".into()],
+        farms: vec!["Hill".into(), "Mill".into()],
+        ..Names::default()
+    };
+    let said = said(Request::OpenPlan, &with_hauls([[1, 1], [1, 4]]), Tariff::None, &names);
     assert_eq!(said.status, 1);
     assert!(said.text.contains("a is yard 1 (South), b is yard 0 (North), p is farm 0 (Hill), q is farm 1 (Mill)."));
 }
 
 #[test]
 fn a_refusal_of_loads_is_told_in_these_words() {
-    let names = Names { yards: vec![], farms: vec!["Hill".into(), "Mill".into()] };
+    let names = Names { yards: vec![], farms: vec!["Hill".into(), "Mill".into()], ..Names::default() };
     let said = outcome(Err(10), &with_loads([20, 21, 0]), &Given::default(), &names);
     let text = "\
 refused 10
@@ -223,60 +199,4 @@ Record 6 (counted from 0), at byte 48: 48 00 01 15 05 00 00 00 hex: a haul, yard
 Its byte 3, the loads of farm 1 (Mill), is 21. Asked: 0 to 20.
 ";
     assert_eq!((said.status, &said.text[..]), (1, text));
-}
-
-fn sheet(words: &[&str]) -> Output {
-    Command::new(env!("CARGO_BIN_EXE_sheet")).args(words).current_dir(env!("CARGO_TARGET_TMPDIR")).output().unwrap()
-}
-
-#[test]
-fn the_tool_makes_shows_and_plans_with_these_statuses() {
-    let folder = Path::new(env!("CARGO_TARGET_TMPDIR"));
-    fs::write(folder.join("s.csv"), include_str!("../../sheets/s.csv")).unwrap();
-    fs::write(folder.join("far.csv"), "cents,A,B\nfee,0,0\nF,1,1\nG,1,4\n").unwrap();
-    fs::write(folder.join("faulty.csv"), "cents,A\nfee,1\nF,1.5\n").unwrap();
-    let cases: [(&[&str], i32, &str, &str); 17] = [
-        (&["make", "s.csv", "s.sheet"], 0, "", "accepted: yards 3, farms 3"),
-        (&["make", "far.csv", "far.sheet"], 1, "", "refused 6\nQuestion 6: Four-point rule"),
-        (&["make", "faulty.csv", "none.sheet"], 1, "", "faulty.csv: line 3, column 2: under yard A: '1.5'"),
-        (&["make", "s.csv", "./s.csv"], 2, "", "./s.csv is the table itself"),
-        (&["show", "s.sheet", "--names", "s.csv"], 0, "   2  Lake Farm             9  5  1", ""),
-        (&["show", "s.sheet", "--names", "far.csv"], 1, "", "far.csv makes another sheet than s.sheet"),
-        (&["show", "s.sheet", "--names"], 2, "", "sheet make TABLE.csv FILE"),
-        (&["show", "far.sheet"], 1, "refused 6", ""),
-        (&["plan", "s.sheet"], 0, "total, fees and hauls     10", ""),
-        (&["plan", "s.sheet", "2"], 0, "total, hauls alone      5", ""),
-        (&["plan", "s.sheet", "4"], 1, "refused 7", ""),
-        (&["plan", "s.sheet", "two"], 2, "", "two is not a whole number from 0 up"),
-        (&["price", "s.sheet", "0", "2"], 0, "   1             0            5", ""),
-        (&["price", "s.sheet"], 1, "refused 8", ""),
-        (&["price", "s.sheet", "32"], 2, "", "yard 32 cannot be in a set"),
-        (&["plan", "none.sheet"], 2, "", "none.sheet cannot be read"),
-        (&[], 2, "", "sheet make TABLE.csv FILE"),
-    ];
-    for (words, status, out, err) in cases {
-        let output = sheet(words);
-        let (said, told) = (String::from_utf8(output.stdout).unwrap(), String::from_utf8(output.stderr).unwrap());
-        assert_eq!(output.status.code(), Some(status), "{words:?}: {said}{told}");
-        assert!(said.contains(out) && told.contains(err), "{words:?}: {said}{told}");
-        assert!(said.is_empty() == out.is_empty() && told.is_empty() == err.is_empty(), "{words:?}: {said}{told}");
-    }
-    assert_eq!(fs::read(folder.join("s.sheet")).unwrap(), s().sheet());
-    assert!(!folder.join("none.sheet").exists());
-}
-
-#[test]
-fn the_tool_makes_tables_with_loads_and_tells_their_faults() {
-    let cases = [
-        ("cents,loads,A\nfee,,1\nF,20,5\nG,,6\n", 0, "accepted: yards 1, farms 2"),
-        ("cents,loads,A\nfee,,1\nF,3,5\nG,21,6\n", 1, "Its byte 3, the loads of farm 1 (G), is 21. Asked: 0 to 20."),
-        ("cents,loads,A\nfee,,1\nF,256,5\n", 1, "loads.csv: line 3, column 2: under loads: 256 is more than the byte"),
-        ("cents,A,loads\nfee,1,\nF,5,2\n", 1, "loads.csv: line 1, column 3: the column of loads is the second one"),
-    ];
-    for (table, status, part) in cases {
-        fs::write(Path::new(env!("CARGO_TARGET_TMPDIR")).join("loads.csv"), table).unwrap();
-        let output = sheet(&["make", "loads.csv", "loads.sheet"]);
-        let told = String::from_utf8(output.stderr).unwrap();
-        assert!(output.status.code() == Some(status) && told.contains(part), "{table}: {told}");
-    }
 }

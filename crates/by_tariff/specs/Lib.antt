@@ -1,0 +1,2 @@
+-- PlanningBy: what the two plans by a tariff answer and write.
+pub mod PlanningBy

@@ -1,0 +1,31 @@
+-- `block::record_within` meets its contract: the record is read as a part of the sheet.
+use mathlib.Core.Path.{refl, _∙_}
+use Rattle.record.proofs.RecordLaws.{eight-bytes}
+use borrow.Author.Needs.{needs}
+use Rattle.distances.proofs.block.record_within.Statement.{statement}
+use Rattle.distances.proofs.block.record_within.Tie as tie
+
+mul-at : tie.Need-mul-at
+mul-at c = search needs
+
+add-at : tie.Need-add-at
+add-at c = search needs
+
+sub-at : tie.Need-sub-at
+sub-at c = search needs
+
+part-at-start : tie.Need-part-at-start
+part-at-start c = search needs
+
+part-at-end : tie.Need-part-at-end
+part-at-end c = search needs
+
+at-requires : tie.Need-at-requires
+at-requires c κs = search needs
+
+returns : tie.Need-returns
+returns c = c .at .ensures ∙ eight-bytes _ _ _ (c .before .before .before .pre) refl
+
+pub record-within-spec : {M : Type 1} → statement M
+record-within-spec =
+    tie.close (tie.spec mul-at add-at sub-at part-at-start part-at-end at-requires returns)

@@ -1,0 +1,46 @@
+-- `counts_number` meets its contract: the arms of the `match` are the cases of `countsNumber`, and each keeps to its bits.
+use native.Mathlib.Omega.{arith}
+use mathlib.Core.Path.{sym, ap, subst}
+use Rattle.questions.specs.Reading.{readingAnswer}
+use Rattle.questions.specs.declared.Reading.{Reading}
+use Rattle.exports.specs.Numbers.{countsNumber, CountsKeepBits}
+use borrow.Author.Needs.{needs}
+use Rattle.exports.proofs.counts_number.Statement.{statement}
+use Rattle.exports.proofs.counts_number.Tie as tie
+
+enum-known-reading : tie.Need-enum-known-reading
+enum-known-reading c = search needs
+
+mul-result : tie.Need-mul-result
+mul-result c = omega (arith, subst CountsKeepBits (ap readingAnswer (c .before .reading .given .1)) (c .before .before .before .pre) .0)
+
+mul-result-2 : tie.Need-mul-result-2
+mul-result-2 c = omega (arith, subst CountsKeepBits (ap readingAnswer (c .before .reading .given .1)) (c .before .before .before .pre) .1)
+
+add-result : tie.Need-add-result
+add-result c = let few = subst CountsKeepBits (ap readingAnswer (c .before .reading .given .1)) (c .before .before .before .pre) in omega (arith, few .0, few .1)
+
+enum-known-reading-2 : tie.Need-enum-known-reading-2
+enum-known-reading-2 c = search needs
+
+cast-result : tie.Need-cast-result
+cast-result c = search needs
+
+returns : tie.Need-returns
+returns c = ap (λ (r : Reading). countsNumber (readingAnswer r)) (sym (c .before .reading .given .1))
+
+returns-2 : tie.Need-returns-2
+returns-2 c = search needs
+
+pub counts-number-spec : {M : Type 1} → statement M
+counts-number-spec =
+    tie.close
+    (tie.spec
+    enum-known-reading
+    mul-result
+    mul-result-2
+    add-result
+    enum-known-reading-2
+    cast-result
+    returns
+    returns-2)

@@ -1,0 +1,10 @@
+-- BandLaws: what bands charge is monotone and at most additive. StartLaws: a haul from the cost at its band's start. QuestionLaws: questions 11
+-- and 12, and what an accepted tariff promises. MakingLaws: a tariff made of its bands prices as they do. HouseLaws: the house tariff. PassedLaws:
+-- the bands of a block of distances. Limits: the numbers of questions 11 and 12, computed.
+pub mod BandLaws
+pub mod StartLaws
+pub mod QuestionLaws
+pub mod MakingLaws
+pub mod HouseLaws
+pub mod PassedLaws
+pub mod Limits

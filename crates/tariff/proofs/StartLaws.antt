@@ -1,0 +1,131 @@
+-- The haul of a distance from the cost at its band's start: the bands before are paid whole, those after it not at all. And what the bands
+-- cost at most.
+use Prim.Native.Nat.{ℕ, zero, suc, _+_, _-_, _*_, _≤_, _<_, min, zero-le}
+use native.Mathlib.Nat.{le-suc, le-trans, le-refl, eq-or-lt-of-le, le-of-suc-le-suc, not-suc-le-zero, mul-le-mul-left, mul-le-mul-right, add-mul}
+use native.Mathlib.Omega.{arith}
+use mathlib.Core.Path.{_≡_, refl, sym, ap, ap₂, subst, _∙_}
+use mathlib.Core.Logic.{_⊎_, inl, inr}
+use Rattle.model.specs.Loops.{sum}
+use Rattle.model.proofs.LoopLaws.{last-or}
+use Rattle.model.proofs.SumLaws.{sum-mono}
+use Rattle.tariff.specs.declared.bands.Band.{Band}
+use Rattle.tariff.specs.Bands.{Bands, inside, charge, haulBy, endOf, lastEnd}
+use Rattle.tariff.specs.Making.{wholeCharge, costBefore}
+use Rattle.tariff.proofs.BandLaws.{Proper}
+
+-- ---- one band
+
+-- a distance within the band or at its end
+pub charge-within : (b : Band) (d : ℕ) → b .start ≤ d → d ≤ b .end → charge b d ≡ (d - b .start) * b .rate
+unfolding charge inside
+charge-within b d h k = let e : min d (b .end) - min d (b .start) ≡ d - b .start = omega arith in ap (λ (x : ℕ). x * b .rate) e
+
+-- one that does not reach it
+charge-before : (b : Band) (d : ℕ) → d ≤ b .start → charge b d ≡ 0
+unfolding charge inside
+charge-before b d h = let e : min d (b .end) - min d (b .start) ≡ 0 = omega arith in rw e (omega arith)
+
+-- one past it
+charge-past : (b : Band) (d : ℕ) → b .start ≤ b .end → b .end ≤ d → charge b d ≡ wholeCharge b
+unfolding charge inside wholeCharge
+charge-past b d up h =
+    let e : min d (b .end) - min d (b .start) ≡ b .end - b .start = omega arith in
+    ap (λ (x : ℕ). x * b .rate) e
+
+charge-most : (b : Band) (d : ℕ) → charge b d ≤ wholeCharge b
+unfolding charge inside wholeCharge
+charge-most b d = mul-le-mul-right (b .rate) (omega arith)
+
+-- ---- bands that join
+
+module _ (band : ℕ → Band) (n : ℕ) (p : Proper n band) where
+  pub ends-rise : (i j : ℕ) → i ≤ j → j < n → band i .end ≤ band j .end
+  ends-rise i zero h l = let e : i ≡ 0 = omega arith in rw e (le-refl (band 0 .end))
+  ends-rise i (suc j) h l = go (last-or-less i j h) (λ k. ends-rise i j k (le-trans (le-suc (suc j)) l))
+    where
+      last-or-less : (i j : ℕ) → i ≤ suc j → (i ≡ suc j) ⊎ (i ≤ j)
+      last-or-less i j h = elim (eq-or-lt-of-le h) [ inl e ↦ inl e | inr k ↦ inr (le-of-suc-le-suc k) ]
+
+      go : (i ≡ suc j) ⊎ (i ≤ j) → (i ≤ j → band i .end ≤ band j .end) → band i .end ≤ band (suc j) .end
+      go (inl e) before = rw e (le-refl (band (suc j) .end))
+      go (inr k) before = omega (arith, before k, p .starts (suc j) l, p .not-empty (suc j) l)
+
+  module _ (d : ℕ) where
+    -- bands that end before the distance does
+    paid-whole : (i : ℕ) → i ≤ n → endOf band i ≤ d → sum i (λ j. charge (band j) d) ≡ costBefore band i
+    unfolding sum costBefore
+    paid-whole zero l h = refl
+    paid-whole (suc i) l h =
+        ap₂ _+_ (paid-whole i (le-trans (le-suc i) l) (omega (arith, p .starts i l, p .not-empty i l)))
+        (charge-past (band i) d (omega (arith, p .not-empty i l)) h)
+
+    -- bands that start where the distance ends or later
+    record Ends (i k : ℕ) : Type 0 where
+      reached : d ≤ endOf band k
+      paid : sum k (λ j. charge (band j) d) ≡ sum (suc i) (λ j. charge (band j) d)
+
+    unpaid : (i k : ℕ) → i < k → k ≤ n → d ≤ band i .end → Ends i k
+    unfolding sum
+    unpaid i zero l m h = absurd (not-suc-le-zero l)
+    unpaid i (suc k) l m h = go (last-or l) (λ b. unpaid i k b (le-trans (le-suc k) m) h)
+      where
+        go : (i ≡ k) ⊎ (i < k) → (i < k → Ends i k) → Ends i (suc k)
+        go (inl e) before =
+            record {
+              reached = subst (λ (x : ℕ). d ≤ band x .end) e h;
+              paid = ap (λ (x : ℕ). sum (suc x) (λ j. charge (band j) d)) (sym e);
+            }
+        go (inr b) before =
+            let r = before b in
+            let s = p .starts k m in
+            record {
+              reached = omega (arith, r .reached, p .not-empty k m);
+              paid = ap (λ (x : ℕ). sum k (λ j. charge (band j) d) + x) (charge-before (band k) d (omega (arith, r .reached)))
+                  ∙ omega (arith, r .paid);
+            }
+
+    pub from-start : (i : ℕ) → i < n → band i .start ≤ d → d ≤ band i .end
+        → sum n (λ j. charge (band j) d) ≡ costBefore band i + (d - band i .start) * band i .rate
+    unfolding sum
+    from-start i l h ends =
+        unpaid i n l (le-refl n) ends .paid
+        ∙ ap₂ _+_ (paid-whole i (le-trans (le-suc i) l) (omega (arith, p .starts i l))) (charge-within (band i) d h ends)
+
+  -- ---- what bands cost
+
+  -- x and y are this end and the next, r the rate of the band between them and k that of another
+  dearer-step : (c x y r : ℕ) → x ≤ y → x * r ≤ c → y * r ≤ c + (y - x) * r
+  dearer-step c x y r h low =
+      let e : y - x + x ≡ y = omega arith in
+      let f : (y - x) * r + x * r ≡ y * r = sym (add-mul (y - x) x r) ∙ ap (λ (z : ℕ). z * r) e in
+      omega arith
+
+  -- the bands before band i cost no less than they would at its rate
+  pub start-cost : (i : ℕ) → i < n → band i .start * band i .rate ≤ costBefore band i
+  unfolding costBefore sum wholeCharge
+  start-cost zero l = rw (p .starts 0 l) (omega arith)
+  start-cost (suc i) l =
+      let below : i < n = le-trans (le-suc (suc i)) l in
+      let ih = start-cost i below in
+      let whole = dearer-step (costBefore band i) (band i .start) (band i .end) (band i .rate) (omega (arith, p .not-empty i below)) ih in
+      rw (p .starts (suc i) l) (omega (arith, whole, mul-le-mul-left (band i .end) (p .no-rise i l)))
+
+  -- and no more than at the highest
+  cheaper-step : (c x y r k : ℕ) → x ≤ y → r ≤ k → c ≤ x * k → c + (y - x) * r ≤ y * k
+  cheaper-step c x y r k h j l =
+      let e : y - x + x ≡ y = omega arith in
+      let f : (y - x) * k + x * k ≡ y * k = sym (add-mul (y - x) x k) ∙ ap (λ (z : ℕ). z * k) e in
+      omega (arith, mul-le-mul-left (y - x) j)
+
+  pub cost-most : (rate i : ℕ) → i ≤ n → ((j : ℕ) → j < n → band j .rate ≤ rate) → costBefore band i ≤ endOf band i * rate
+  unfolding costBefore sum wholeCharge
+  cost-most rate zero l h = zero-le
+  cost-most rate (suc i) l h =
+      let s = p .starts i l in
+      rw s (cheaper-step (costBefore band i) (endOf band i) (band i .end) (band i .rate) rate (omega (arith, p .not-empty i l)) (h i l)
+      (cost-most rate i (le-trans (le-suc i) l) h))
+
+-- a haul is at most what all bands cost
+pub haul-most : (b : Bands) (d : ℕ) → haulBy b d ≤ costBefore (b .band) (b .count)
+unfolding haulBy costBefore
+haul-most b d = sum-mono (b .count) (λ i l. charge-most (b .band i) d)
