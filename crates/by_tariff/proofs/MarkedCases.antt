@@ -1,5 +1,5 @@
 -- The marked cases of documents 01 and 02 as one table: what each call gives, computed from the definitions, is the answer beside it.
-use Prim.Native.Nat.{ℕ, _+_, _*_, _/_, _%_}
+use Prim.Native.Nat.{ℕ}
 use mathlib.Core.Path.{_≡_, refl}
 use mathlib.Core.List.{List, [], _∷_, _++_}
 use Rattle.model.specs.Loops.{allBelow, leading, sum, join}
@@ -17,6 +17,7 @@ use Rattle.questions.specs.Reading.{Counts, counts, form, formAndLoads, reading
 use Rattle.tariff.specs.Bands.{inside, charge, haulBy, lastEnd}
 use Rattle.tariff.specs.Questions.{bandOf, bandAt, tariffLength, inPlace, bandInPlace, question11, noRise, question12}
 use Rattle.tariff.specs.Reading.{bandsOf, tariffReading}
+use Rattle.tariff.proofs.BandBytes.{bandBytes}
 use Rattle.tariff.specs.declared.TariffChoice.{TariffChoice}
 use Rattle.tariff.specs.declared.TariffChoice.the-variants.{NoTariff, HouseTariff, GivenTariff}
 use Rattle.distances.specs.Priced.{pricedRecord, pricedAt, pricedSheet, question13, pricedBy, underGiven, sheetBy, readingBy}
@@ -61,16 +62,13 @@ oneDistance fee byte3 distance = yard 0 fee ++ haulTo 0 0 byte3 distance
 
 -- ---- the tariffs
 
-band : ℕ → ℕ → ℕ → ℕ → List ℕ
-band i start end rate = bytesOf (recordOf 0x42 i (start % 256) (start / 256) (end + 65536 * rate))
-
 -- two bands of these rates, the second from this start up to 1000
 twoBands : ℕ → ℕ → ℕ → List ℕ
-twoBands rate start lower = band 0 0 100 rate ++ band 1 start 1000 lower
+twoBands rate start lower = bandBytes 0 0 100 rate ++ bandBytes 1 start 1000 lower
 
 -- one band of the highest end and the highest rate
 highest : List ℕ
-highest = band 0 0 65535 65535
+highest = bandBytes 0 0 65535 65535
 
 -- ---- the calls, and what they give: the counts, or a plan's records and moves, or a number
 
@@ -182,11 +180,11 @@ table =
     ∷ case (readsBy GivenTariff [] sheetS) (readAnswer (refused 11))
     ∷ case (readsBy GivenTariff (highest ++ 0 ∷ []) sheetS) (readAnswer (refused 11))
     ∷ case (readsBy GivenTariff (yard 0 0) sheetS) (readAnswer (refused 11))
-    ∷ case (readsBy GivenTariff (band 1 0 100 40) sheetS) (readAnswer (refused 11))
+    ∷ case (readsBy GivenTariff (bandBytes 1 0 100 40) sheetS) (readAnswer (refused 11))
     ∷ case (readsBy GivenTariff (twoBands 40 101 7) sheetS) (readAnswer (refused 11))
     ∷ case (readsBy GivenTariff (twoBands 40 99 7) sheetS) (readAnswer (refused 11))
-    ∷ case (readsBy GivenTariff (band 0 0 0 40) sheetS) (readAnswer (refused 11))
-    ∷ case (readsBy GivenTariff (band 0 1 100 40) sheetS) (readAnswer (refused 11))
+    ∷ case (readsBy GivenTariff (bandBytes 0 0 0 40) sheetS) (readAnswer (refused 11))
+    ∷ case (readsBy GivenTariff (bandBytes 0 1 100 40) sheetS) (readAnswer (refused 11))
     -- a rate above the band before it; 11 comes first; both ahead of question 1, which a good tariff lets through to
     ∷ case (plansBy GivenTariff (twoBands 40 100 41) (oneDistance 7 0 120)) (refuses 12)
     ∷ case (plansBy GivenTariff (twoBands 40 101 41) (oneDistance 7 0 120)) (refuses 11)
@@ -204,7 +202,7 @@ table =
     ∷ case (readsBy GivenTariff highest (oneDistance 7 0 15)) (readAnswer (accepted (counts 1 1)))
     ∷ case (readsBy GivenTariff highest (oneDistance 7 0 16)) (readAnswer (refused 5))
     -- question 6 of the hauls: distances 1, 1, 1, 4 break the rule, and cost 40 each by the one tariff and 40, 40, 40, 160 by the other
-    ∷ case (readsBy GivenTariff (band 0 0 1 40 ++ band 1 1 1000 0) (twoYards 0 0 4)) (readAnswer (accepted (counts 2 2)))
+    ∷ case (readsBy GivenTariff (bandBytes 0 0 1 40 ++ bandBytes 1 1 1000 0) (twoYards 0 0 4)) (readAnswer (accepted (counts 2 2)))
     ∷ case (readsBy GivenTariff (twoBands 40 100 7) (twoYards 0 0 4)) (readAnswer (refused 6))
     ∷ []
 
@@ -217,5 +215,5 @@ computed [] = []
 computed (c ∷ cs) = given (c .call) ∷ computed cs
 
 pub marked-cases : computed table ≡ expected table
-unfolding table case band twoBands highest oneDistance gives refuses ends served brings opened given room sheetS loaded twoYards equalHauls haulTo yard expected computed bytesOf recordAt wellFormed reading formAndLoads form question1 question2 wellFormedAt question3 numbered noYardAfter question4 haulInPlace farmInPlace question10 haulLoaded farmLoaded question5 amountWithin question6 isYard yards hauls farms fee haul loadsByte instanceOf instanceBy allBelow leading sum join any least arg member with without metric fourPointBPQ fourPointPQ fourPointQ fourPoint nearest atNearest assigned openingCost serviceCost totalCost addAt adds dropAt drops swapAt swapsOut swaps addDropSwap better best next descend search openCost openStart openSearch limitedCost limitedStart limitedSearch openRecord farmRecord totalRecord movesRecord planBytes question9 question8 pricing openEnd limitedEnd settledAt planOf openPlan limitedPlan question7 openPlanning limitedPlanning inside charge haulBy lastEnd bandOf bandAt tariffLength inPlace bandInPlace question11 noRise question12 bandsOf tariffReading pricedRecord pricedAt pricedSheet question13 pricedBy underGiven sheetBy readingBy pricingBy openPlanningBy limitedPlanningBy
+unfolding table case bandBytes twoBands highest oneDistance gives refuses ends served brings opened given room sheetS loaded twoYards equalHauls haulTo yard expected computed bytesOf recordAt wellFormed reading formAndLoads form question1 question2 wellFormedAt question3 numbered noYardAfter question4 haulInPlace farmInPlace question10 haulLoaded farmLoaded question5 amountWithin question6 isYard yards hauls farms fee haul loadsByte instanceOf instanceBy allBelow leading sum join any least arg member with without metric fourPointBPQ fourPointPQ fourPointQ fourPoint nearest atNearest assigned openingCost serviceCost totalCost addAt adds dropAt drops swapAt swapsOut swaps addDropSwap better best next descend search openCost openStart openSearch limitedCost limitedStart limitedSearch openRecord farmRecord totalRecord movesRecord planBytes question9 question8 pricing openEnd limitedEnd settledAt planOf openPlan limitedPlan question7 openPlanning limitedPlanning inside charge haulBy lastEnd bandOf bandAt tariffLength inPlace bandInPlace question11 noRise question12 bandsOf tariffReading pricedRecord pricedAt pricedSheet question13 pricedBy underGiven sheetBy readingBy pricingBy openPlanningBy limitedPlanningBy
 marked-cases = refl

@@ -9,7 +9,7 @@ use mathlib.Core.Path.{_≡_, refl, sym, ap, ap₂, subst, _∙_}
 use mathlib.Core.Logic.{_⊎_, inl, inr}
 use mathlib.Core.Bool.{Bool, true, false, cond, _&&_, and-false, and-true, and-assoc, true≢false}
 use mathlib.Core.List.{List, [], _++_, append-assoc, append-nil}
-use lib.ListN.{length, length-append}
+use lib.ListN.{length, getD, length-append}
 use borrow.Author.Tests.{eq-eqb, ne-eqb, eqb-true}
 use lib.Dec.{eqb}
 use Rattle.model.specs.Loops.{allBelow, leading, join}
@@ -45,6 +45,11 @@ all-stops p (suc n) i h e =
 -- the readable form: p holds of each index
 pub all-at : (p : ℕ → Bool) (n i : ℕ) → allBelow n p ≡ true → i < n → p i ≡ true
 all-at p n i h l = cases (p i) (λ e. e) (λ e. clash h (all-stops p n i l e))
+
+-- a test of a whole table gives its rule at each entry
+pub table-rule : (table : List ℕ) (rule : ℕ → ℕ) (n : ℕ) → allBelow n (λ i. eqb (getD table i 0) (rule i)) ≡ true
+    → (i : ℕ) → i < n → getD table i 0 ≡ rule i
+table-rule table rule n h i l = eqb-true (getD table i 0) (rule i) (all-at (λ k. eqb (getD table k 0) (rule k)) n i h l)
 
 pub all-from : (p : ℕ → Bool) (n : ℕ) → ((i : ℕ) → i < n → p i ≡ true) → allBelow n p ≡ true
 unfolding allBelow

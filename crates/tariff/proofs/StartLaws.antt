@@ -1,16 +1,22 @@
--- The haul of a distance from the cost at its band's start: the bands before are paid whole, those after it not at all. And what the bands
--- cost at most.
+-- The haul of a distance from the cost at its band's start: the bands before are paid whole, those after it not at all. Which band that is, and
+-- what the bands cost at most.
 use Prim.Native.Nat.{ℕ, zero, suc, _+_, _-_, _*_, _≤_, _<_, min, zero-le}
 use native.Mathlib.Nat.{le-suc, le-trans, le-refl, eq-or-lt-of-le, le-of-suc-le-suc, not-suc-le-zero, mul-le-mul-left, mul-le-mul-right, add-mul}
+use native.Mathlib.Numerals.{add-one}
 use native.Mathlib.Omega.{arith}
+use native.Mathlib.Decide.{decLt}
 use mathlib.Core.Path.{_≡_, refl, sym, ap, ap₂, subst, _∙_}
+use mathlib.Core.Bool.{Bool, true}
 use mathlib.Core.Logic.{_⊎_, inl, inr}
+use borrow.Author.Tests.{ltb-true, ltb-false, lt-ltb, le-ltb}
+use lib.Dec.{ltb}
 use Rattle.model.specs.Loops.{sum}
+use Rattle.model.specs.Sets.{count}
+use Rattle.model.proofs.CountLaws.{count-le, count-downward}
 use Rattle.model.proofs.LoopLaws.{last-or}
 use Rattle.model.proofs.SumLaws.{sum-mono}
 use Rattle.tariff.specs.declared.bands.Band.{Band}
-use Rattle.tariff.specs.Bands.{Bands, inside, charge, haulBy, endOf, lastEnd}
-use Rattle.tariff.specs.Making.{wholeCharge, costBefore}
+use Rattle.tariff.specs.Bands.{Bands, inside, charge, haulBy, endOf, lastEnd, bandNumber, wholeCharge, costBefore}
 use Rattle.tariff.proofs.BandLaws.{Proper}
 
 -- ---- one band
@@ -35,6 +41,16 @@ charge-past b d up h =
 charge-most : (b : Band) (d : ℕ) → charge b d ≤ wholeCharge b
 unfolding charge inside wholeCharge
 charge-most b d = mul-le-mul-right (b .rate) (omega arith)
+
+-- ---- the cost of the bands before one, as they are passed
+
+pub cost-none : (band : ℕ → Band) → 0 ≡ costBefore band 0
+unfolding costBefore sum
+cost-none band = refl
+
+pub cost-more : (band : ℕ → Band) (i cost more : ℕ) → cost ≡ costBefore band i → more ≡ wholeCharge (band i) → cost + more ≡ costBefore band (i + 1)
+unfolding costBefore sum
+cost-more band i cost more e f = rw add-one (ap₂ _+_ e f)
 
 -- ---- bands that join
 
@@ -84,12 +100,16 @@ module _ (band : ℕ → Band) (n : ℕ) (p : Proper n band) where
                   ∙ omega (arith, r .paid);
             }
 
-    pub from-start : (i : ℕ) → i < n → band i .start ≤ d → d ≤ band i .end
-        → sum n (λ j. charge (band j) d) ≡ costBefore band i + (d - band i .start) * band i .rate
+    -- the distance ends in band i or, where that is the last one, behind it
+    pub from-start : (i : ℕ) → i < n → band i .start ≤ d → (d ≤ band i .end) ⊎ (suc i ≡ n)
+        → sum n (λ j. charge (band j) d) ≡ costBefore band i + charge (band i) d
     unfolding sum
     from-start i l h ends =
-        unpaid i n l (le-refl n) ends .paid
-        ∙ ap₂ _+_ (paid-whole i (le-trans (le-suc i) l) (omega (arith, p .starts i l))) (charge-within (band i) d h ends)
+        all-paid ends ∙ ap (λ (x : ℕ). x + charge (band i) d) (paid-whole i (le-trans (le-suc i) l) (omega (arith, p .starts i l)))
+      where
+        all-paid : (d ≤ band i .end) ⊎ (suc i ≡ n) → sum n (λ j. charge (band j) d) ≡ sum (suc i) (λ j. charge (band j) d)
+        all-paid (inl e) = unpaid i n l (le-refl n) e .paid
+        all-paid (inr e) = ap (λ (k : ℕ). sum k (λ j. charge (band j) d)) (sym e)
 
   -- ---- what bands cost
 
@@ -124,6 +144,67 @@ module _ (band : ℕ → Band) (n : ℕ) (p : Proper n band) where
       let s = p .starts i l in
       rw s (cheaper-step (costBefore band i) (endOf band i) (band i .end) (band i .rate) rate (omega (arith, p .not-empty i l)) (h i l)
       (cost-most rate i (le-trans (le-suc i) l) h))
+
+-- ---- the band of a distance
+
+module _ (b : Bands) (some : 1 ≤ b .count) (p : Proper (b .count) (b .band)) (d : ℕ) where
+  -- is the distance past the end of band i
+  abbrev past : ℕ → Bool
+  past i = ltb (b .band i .end) d
+
+  before-passed : (i j : ℕ) → i ≤ j → j < b .count - 1 → past j ≡ true → past i ≡ true
+  before-passed i j up l e =
+      lt-ltb (b .band i .end) d
+      (omega (arith, ends-rise (b .band) (b .count) p i j up (omega (arith, some)), ltb-true (b .band j .end) d e))
+
+  -- the ends passed are those of the bands before
+  passed-are : (i : ℕ) → i < b .count - 1 → past i ≡ ltb i (bandNumber b d)
+  unfolding bandNumber
+  passed-are i l = count-downward (b .count - 1) past before-passed i l
+
+  few-passed : bandNumber b d ≤ b .count - 1
+  unfolding bandNumber
+  few-passed = count-le (b .count - 1) past
+
+  pub is-band : bandNumber b d < b .count
+  is-band = omega (arith, few-passed, some)
+
+  -- it starts before the distance or where it ends
+  pub starts-before : b .band (bandNumber b d) .start ≤ d
+  starts-before = go (bandNumber b d) refl
+    where
+      go : (k : ℕ) → bandNumber b d ≡ k → b .band k .start ≤ d
+      go zero e = let s = p .starts 0 some in omega arith
+      go (suc k) e =
+          let s = p .starts (suc k) (omega (arith, is-band)) in
+          let far = ltb-true (b .band k .end) d (passed-are k (omega (arith, few-passed)) ∙ ap (ltb k) e ∙ lt-ltb k (suc k) (le-refl (suc k))) in
+          omega arith
+
+  -- and ends behind it or there, or is the last one
+  ends-behind : (d ≤ b .band (bandNumber b d) .end) ⊎ (suc (bandNumber b d) ≡ b .count)
+  ends-behind =
+      elim (decLt (bandNumber b d) (b .count - 1)) [
+        | yes l ↦ inl
+            (ltb-false (b .band (bandNumber b d) .end) d (passed-are (bandNumber b d) l ∙ le-ltb (bandNumber b d) (bandNumber b d) (le-refl (bandNumber b d))))
+        | no g ↦ inr (omega (arith, few-passed, some))
+      ]
+
+  -- The haul of any distance: the cost at its band's start, and the distance inside the band times its rate.
+  pub haul-from-start : haulBy b d ≡ costBefore (b .band) (bandNumber b d) + charge (b .band (bandNumber b d)) d
+  unfolding haulBy
+  haul-from-start = from-start (b .band) (b .count) p d (bandNumber b d) is-band starts-before ends-behind
+
+  -- up to the last end
+  pub haul-within : d ≤ lastEnd b
+      → haulBy b d ≡ costBefore (b .band) (bandNumber b d) + (d - b .band (bandNumber b d) .start) * b .band (bandNumber b d) .rate
+  unfolding lastEnd
+  haul-within within =
+      haul-from-start
+      ∙ ap (λ (x : ℕ). costBefore (b .band) (bandNumber b d) + x) (charge-within (b .band (bandNumber b d)) d starts-before (ends-there ends-behind))
+    where
+      ends-there : (d ≤ b .band (bandNumber b d) .end) ⊎ (suc (bandNumber b d) ≡ b .count) → d ≤ b .band (bandNumber b d) .end
+      ends-there (inl h) = h
+      ends-there (inr e) = subst (λ (n : ℕ). d ≤ endOf (b .band) n) (sym e) within
 
 -- a haul is at most what all bands cost
 pub haul-most : (b : Bands) (d : ℕ) → haulBy b d ≤ costBefore (b .band) (b .count)

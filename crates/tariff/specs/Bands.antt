@@ -1,7 +1,9 @@
--- The bands of a tariff, and what it charges for a distance (document 02, paper 3). Starts, ends and distances are in hundreds of metres,
+-- The bands of a tariff, and what it charges for a distance (document 02, papers 3 and 6). Starts, ends and distances are in hundreds of metres,
 -- rates in cents for each hundred.
 use Prim.Native.Nat.{ℕ, zero, suc, _-_, _*_, min}
+use lib.Dec.{ltb}
 use Rattle.model.specs.Loops.{sum}
+use Rattle.model.specs.Sets.{count}
 use Rattle.tariff.specs.declared.bands.Band.{Band}
 
 abbrev pub bandBy : ℕ → ℕ → ℕ → Band
@@ -32,3 +34,14 @@ endOf band (suc n) = band n .end
 -- where the last band ends
 unfoldable pub lastEnd : Bands → ℕ
 lastEnd t = endOf (t .band) (t .count)
+
+-- the number of a distance's band: how many of the bands before the last one it is past
+unfoldable pub bandNumber : Bands → ℕ → ℕ
+bandNumber t d = count (t .count - 1) (λ i. ltb (t .band i .end) d)
+
+-- what the whole of a band costs, and "the cost of all the bands before" band i, which is the cost at its start
+unfoldable pub wholeCharge : Band → ℕ
+wholeCharge b = (b .end - b .start) * b .rate
+
+unfoldable pub costBefore : (ℕ → Band) → ℕ → ℕ
+costBefore band i = sum i (λ j. wholeCharge (band j))

@@ -1,4 +1,4 @@
-// Tariffs: hauls by distance (document 02, paper 3).
+// Tariffs: hauls by distance (document 02, papers 3 and 6).
 //
 // `read_tariff` asks questions 11 and 12 of a tariff's bytes, `house_tariff` is the tariff that is built in, and `bands_of` finds the bands
 // of distances, so many at a time; the line that a band prices by is the tariff's. Every call is total: it takes any bytes, any tariff and any distances.
@@ -9,6 +9,8 @@ mod reading;
 
 pub use bands::Band;
 pub use bands::Tariff;
+pub use house::HOUSE;
+pub use house::HOUSE_BANDS;
 pub use house::house_tariff;
 pub use passed::BLOCK;
 pub use passed::bands_of;

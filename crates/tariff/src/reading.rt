@@ -1,8 +1,6 @@
 // Questions 11 and 12: a tariff read from its records.
 ghost use mathlib.Core.Path.{_≡_};
 ghost use mathlib.Core.Bool.{true};
-ghost use Prim.Native.Nat.{_≤_};
-ghost use lib.ListN.{length};
 ghost use Rattle.record.specs.Records.{records};
 ghost use Rattle.tariff.specs.Questions.{bandOf, inPlace, question11, question12};
 ghost use Rattle.tariff.specs.Reading.{bandsOf, tariffReading, ReadAs};
@@ -127,9 +125,12 @@ fn tariff_of(bytes: &[u8]) -> Tariff
 {
     let n = bytes.len() / Record::LEN;
     let mut tariff = Tariff::without_bands();
+    let mut cost: u32 = 0;
     let mut i = 0;
     while i < n {
-        tariff = tariff.with_band(i, band_of(Record::at(bytes, i)));
+        let band = band_of(Record::at(bytes, i));
+        tariff = tariff.with_band(i, band, cost);
+        cost += band.whole_charge();
         i += 1;
     }
     tariff

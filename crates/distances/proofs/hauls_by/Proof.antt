@@ -23,7 +23,7 @@ house-tariff-requires c κs = search needs
 
 price-into-requires : tie.Need-price-into-requires
 price-into-requires c κs = let arm = c .before .before .before in
-    (arm .before .if1 .left, prices-fit house _ (c .before .house-tariff .ensures))
+    (arm .before .if1 .left, prices-fit house _ (c .before .house-tariff .ensures .0))
 
 enum-told-3 : tie.Need-enum-told-3
 enum-told-3 c = search needs
@@ -46,7 +46,7 @@ returns-3 c = let priced = c .before .before .price-into in
     let made = c .before .before .before .before in
     let kept = made .before .before .before in
     let a = kept .before .before .before .before .args in (
-      priced .ensures .0 ∙ priced-as house _ _ (made .house-tariff .ensures) ∙ ap (λ by. sheetBy by (a .tariff .now) (a .sheet .now)) (sym (made .before .enum-told2 .given .1))
+      priced .ensures .0 ∙ priced-as house _ _ (made .house-tariff .ensures .0) ∙ ap (λ by. sheetBy by (a .tariff .now) (a .sheet .now)) (sym (made .before .enum-told2 .given .1))
           ∙ sym (enough-room _ _ _ _ (kept .if1 .left)),
       priced .ensures .1,
     )

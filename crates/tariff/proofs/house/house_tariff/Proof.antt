@@ -1,11 +1,11 @@
 -- `house::house_tariff` meets its contract. The invariant: the tariff is made of the bands passed.
-use mathlib.Core.Path.{_≡_, refl, sym, subst}
-use Prim.Native.Nat.{ℕ, _≤_, _-_}
+use mathlib.Core.Path.{_≡_, refl, sym, subst, _∙_}
+use Prim.Native.Nat.{_≤_, _-_}
 use native.Mathlib.Omega.{arith}
 use borrow.Author.Needs.{needs}
 use Rattle.tariff.specs.House.{house}
-use Rattle.tariff.proofs.MakingLaws.{Made, made-none, may-follow, made-more, made-prices}
-use Rattle.tariff.proofs.HouseLaws.{house-allowed}
+use Rattle.tariff.proofs.MakingLaws.{Made, made-none, may-follow, made-more, made-prices, line-begins}
+use Rattle.tariff.proofs.HouseLaws.{house-allowed, start-is}
 use Rattle.tariff.proofs.house.house_tariff.Statement.{statement}
 use Rattle.tariff.proofs.house.house_tariff.Tie as tie
 
@@ -27,8 +27,14 @@ mul-with-band c = omega arith
 array-copy-out-with-band : tie.Need-array-copy-out-with-band Inv-loop μ-loop
 array-copy-out-with-band c = search needs
 
+mul-with-band-2 : tie.Need-mul-with-band-2 Inv-loop μ-loop
+mul-with-band-2 c = omega arith
+
+array-read-with-band : tie.Need-array-read-with-band Inv-loop μ-loop
+array-read-with-band c = search needs
+
 with-band-requires : tie.Need-with-band-requires Inv-loop μ-loop
-with-band-requires c κs = may-follow house house-allowed _ _ _ (omega arith) refl (c .before .before .loop .inv .1)
+with-band-requires c κs = may-follow house house-allowed _ _ _ (omega arith) refl (start-is _ (omega arith))
 
 add-i : tie.Need-add-i Inv-loop μ-loop
 add-i c = omega arith
@@ -38,12 +44,13 @@ loop-less c = omega arith
 
 loop-again : tie.Need-loop-again Inv-loop μ-loop
 loop-again c = let loop = c .before .before .before in
-    (omega arith, subst (Made house _) (sym (c .with-band .ensures)) (made-more house house-allowed _ _ _ (omega arith) refl (loop .loop .inv .1)))
+    (omega arith, subst (Made house _) (sym (c .with-band .ensures)) (made-more house house-allowed _ _ _ _ (omega arith) refl (start-is _ (omega arith)) (loop .loop .inv .1)))
 
 returns : tie.Need-returns Inv-loop μ-loop
 returns c = let loop = c .before in
     let e : loop .loop .i ≡ 6 = omega arith in
-    made-prices house house-allowed _ (rw e at (loop .loop .inv .1))
+    let all = rw e at (loop .loop .inv .1) in
+    (made-prices house house-allowed _ all, λ i l. line-begins house house-allowed _ all i l ∙ sym (start-is i l))
 
 pub house-tariff-spec : {M : Type 1} → statement M
 house-tariff-spec =
@@ -55,6 +62,8 @@ house-tariff-spec =
     loop-holds
     mul-with-band
     array-copy-out-with-band
+    mul-with-band-2
+    array-read-with-band
     with-band-requires
     add-i
     loop-less
