@@ -23,7 +23,7 @@ use Rattle.tariff.specs.declared.TariffChoice.the-variants.{NoTariff, HouseTari
 use Rattle.distances.specs.Priced.{pricedRecord, pricedAt, pricedSheet, question13, pricedBy, underGiven, sheetBy, readingBy}
 use Rattle.price.specs.Plan.{openRecord, farmRecord, totalRecord, movesRecord, planBytes, question9}
 use Rattle.price.specs.Pricing.{Plan, question8, pricing}
-use Rattle.price.specs.PricingBy.{pricingBy}
+use Rattle.price_by.specs.PricingBy.{pricingBy}
 use Rattle.search.specs.SearchEnds.{settledAt, openEnd, limitedEnd, planOf}
 use Rattle.search.specs.Planning.{openPlan, limitedPlan, question7, openPlanning, limitedPlanning}
 use Rattle.by_tariff.specs.PlanningBy.{openPlanningBy, limitedPlanningBy}

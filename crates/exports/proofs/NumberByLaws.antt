@@ -1,5 +1,5 @@
 -- The numbers of the calls by a tariff: they say what the call answered, and what is promised by them holds on the sheet of hauls.
-use Prim.Native.Nat.{ℕ, _^_, _≤_, _<_}
+use Prim.Native.Nat.{ℕ, _≤_}
 use native.Mathlib.Omega.{arith}
 use mathlib.Core.Path.{_≡_, refl, subst}
 use mathlib.Core.List.{List}
@@ -7,16 +7,16 @@ use lib.ListN.{length}
 use Rattle.model.specs.Answers.{Answer, accepted, refused, after}
 use Rattle.model.specs.Plans.{openStart, openSearch, limitedStart, limitedSearch}
 use Rattle.questions.specs.Sheet.{instanceOf}
-use Rattle.questions.specs.Reading.{Counts, counts, reading}
+use Rattle.questions.specs.Reading.{counts, reading}
 use Rattle.questions.proofs.AcceptedLaws.{accepts}
 use Rattle.tariff.specs.declared.TariffChoice.{TariffChoice}
 use Rattle.distances.specs.Priced.{sheetBy, readingBy, OnHauls}
 use Rattle.distances.proofs.CallLaws.{sheet-numbered, read-on-hauls}
 use Rattle.price.specs.Pricing.{Plan, plannedAnswer, answer, areaAfter, OfPlan, pricing}
-use Rattle.price.specs.PricingBy.{pricingBy}
+use Rattle.price_by.specs.PricingBy.{pricingBy}
 use Rattle.price.specs.declared.Planned.{Planned}
 use Rattle.price.proofs.OfPlanLaws.{priced-set}
-use Rattle.price.proofs.PricingByLaws.{priced-on-hauls}
+use Rattle.price_by.proofs.PricingByLaws.{priced-on-hauls}
 use Rattle.search.specs.Planning.{openPlanning, limitedPlanning}
 use Rattle.by_tariff.specs.PlanningBy.{openPlanningBy, limitedPlanningBy}
 use Rattle.search.proofs.PromiseLaws.{open-plan-of, limited-plan-of}

@@ -11,7 +11,7 @@ ghost use Rattle.questions.specs.Reading.{readingAnswer, reading};
 ghost use Rattle.sheet.specs.Stretch.{farmHauls, farmFrom, HaulsFrom};
 ghost use Rattle.distances.specs.Priced.{sheetBy, readingBy, OnHauls};
 ghost use Rattle.price.specs.Pricing.{plannedAnswer, answer, areaAfter, pricing};
-ghost use Rattle.price.specs.PricingBy.{pricingBy};
+ghost use Rattle.price_by.specs.PricingBy.{pricingBy};
 ghost use Rattle.search.specs.Planning.{openPlanning, limitedPlanning};
 ghost use Rattle.by_tariff.specs.PlanningBy.{openPlanningBy, limitedPlanningBy};
 ghost use Rattle.search.specs.Promises.{NoOpenMove, BoundedByRivals, OfSize, NoLimitedMove, BoundedByRivalsOf};
@@ -123,7 +123,7 @@ pub extern "C" fn planner_price_by(
     ensures area { λ r. ⌜ now (area .exit) ≡ areaAfter (pricingBy (choiceOf hauls) (now (tariff .entry)) (now (sheet .entry)) set (length (now (area .entry)))) (now (area .entry)) ⌝ }
     ensures kept { λ r. ⌜ OfWritten r (now (area .exit)) (λ kept. kept ≡ set) ⌝ }
 {
-    let priced = price::price_by(sheet, choice_of(hauls), tariff, set, area);
+    let priced = price_by::price_by(sheet, choice_of(hauls), tariff, set, area);
     number(priced)
 }
 

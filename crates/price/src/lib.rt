@@ -1,7 +1,7 @@
 // Pricing: the nearest open yard of each farm, what a set of yards costs, and the plan of it in the caller's area.
 //
-// `price` asks what reading asks and questions 8 and 9 of document 01, and writes the plan of the set that it is given; `price_by` does it by a
-// tariff. `write_plan`, with `plan_fits`, writes the plan of any set for callers that have read the sheet. Every call is total.
+// `price` asks what reading asks and questions 8 and 9 of document 01, and writes the plan of the set that it is given. `write_plan`, with
+// `plan_fits`, writes the plan of any set for callers that have read the sheet. Every call is total.
 mod nearest;
 mod plan;
 
@@ -18,11 +18,7 @@ ghost use Prim.Native.Nat.{_≤_};
 ghost use lib.ListN.{length};
 ghost use Rattle.questions.specs.Bounds.{mostYards};
 ghost use Rattle.price.specs.Pricing.{plannedAnswer, answer, areaAfter, question8, pricing, SetKept};
-ghost use Rattle.price.specs.PricingBy.{pricingBy};
-use distances::HaulSheet;
-use sheet::MOST_BYTES;
 use sheet::Reading;
-use tariff::TariffChoice;
 
 // What a call that writes a plan answers: the bytes written and the moves made, or the number of the first question that is
 // answered no.
@@ -59,26 +55,6 @@ pub fn price(sheet: &[u8], set: u32, area: &mut [u8]) -> Planned
             Planned::Written { bytes, moves: 0 }
         }
         Reading::Refused(number) => Planned::Refused(number),
-    }
-}
-
-// The same on a sheet of distances by a tariff, or on a sheet of hauls. The tariff's bytes count for a given one alone.
-pub fn price_by(
-    sheet: &[u8],
-    choice: TariffChoice,
-    tariff: &[u8],
-    set: u32,
-    area: &mut [u8],
-) -> Planned
-    ensures answer { λ r. ⌜ plannedAnswer r ≡ answer (pricingBy choice (now (tariff .entry)) (now (sheet .entry)) set (length (now (area .entry)))) ⌝ }
-    ensures area { λ r. ⌜ now (area .exit) ≡ areaAfter (pricingBy choice (now (tariff .entry)) (now (sheet .entry)) set (length (now (area .entry)))) (now (area .entry)) ⌝ }
-    ensures kept { λ r. ⌜ SetKept set r (now (area .exit)) ⌝ }
-{
-    let mut hauls = [0u8; MOST_BYTES];
-    match distances::hauls_by(sheet, choice, tariff, &mut hauls) {
-        HaulSheet::AsWritten => price(sheet, set, area),
-        HaulSheet::Priced(bytes) => price(&hauls[..bytes], set, area),
-        HaulSheet::Refused(number) => Planned::Refused(number),
     }
 }
 

@@ -1,4 +1,4 @@
--- `planner_price_by` meets its contract: `price::price_by` does, and its answers keep to their bits.
+-- `planner_price_by` meets its contract: `price_by::price_by` does, and its answers keep to their bits.
 use mathlib.Core.Path.{_≡_, sym, ap, subst, _∙_}
 use Rattle.exports.specs.Numbers.{resultNumber, KeepsBits}
 use Rattle.exports.proofs.NumberLaws.{of-written}

@@ -2,16 +2,15 @@
 use Prim.Native.Nat.{ℕ}
 use mathlib.Core.Path.{_≡_}
 use mathlib.Core.List.{List}
-use lib.ListN.{length}
-use Rattle.model.specs.Answers.{Answer, accepted}
+use Rattle.model.specs.Answers.{accepted}
 use Rattle.model.proofs.AnswerLaws.{passed-first}
 use Rattle.questions.proofs.ReadingLaws.{reading-loads}
 use Rattle.tariff.specs.declared.TariffChoice.{TariffChoice}
 use Rattle.distances.specs.Priced.{sheetBy}
 use Rattle.distances.proofs.CallLaws.{FormFirst}
 use Rattle.price.specs.Pricing.{Plan, pricing}
-use Rattle.price.specs.PricingBy.{pricingBy}
+use Rattle.price_by.specs.PricingBy.{pricingBy}
 use Rattle.price.proofs.PricingLaws.{unread}
 
 pub pricing-first : (set room : ℕ) → FormFirst (λ h. pricing h set room)
 pricing-first set room h k e = unread h set room k (reading-loads h k e)

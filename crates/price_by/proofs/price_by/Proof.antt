@@ -5,14 +5,14 @@ use lib.ListN.{length}
 use lib.Seq.{length-take-le}
 use Rattle.distances.specs.Lent.{FitsIn}
 use Rattle.distances.proofs.CallLaws.{as-written, as-priced, as-refused}
 use Rattle.price.specs.Pricing.{pricing}
-use Rattle.price.specs.PricingBy.{pricingBy}
+use Rattle.price_by.specs.PricingBy.{pricingBy}
 use Rattle.price.proofs.PricingLaws.{refuses, as-outcome}
 use Rattle.price.proofs.OfPlanLaws.{none-written}
-use Rattle.price.proofs.PricingByLaws.{pricing-first}
+use Rattle.price_by.proofs.PricingByLaws.{pricing-first}
 use borrow.Author.Needs.{needs}
-use Rattle.price.proofs.price_by.Statement.{statement}
-use Rattle.price.proofs.price_by.Tie as tie
+use Rattle.price_by.proofs.price_by.Statement.{statement}
+use Rattle.price_by.proofs.price_by.Tie as tie
 
 slice-aggregate-hauls-by : tie.Need-slice-aggregate-hauls-by
 slice-aggregate-hauls-by c = search needs
