@@ -8,7 +8,6 @@ use mathlib.Core.Bool.{true}
 use mathlib.Core.List.{List}
 use lib.Dec.{ltb}
 use lib.ListN.{length, getD, length-set, length-replicate}
-use Rattle.model.specs.Loops.{sum}
 use Rattle.model.specs.Sets.{count}
 use Rattle.model.proofs.PlaceLaws.{front-more}
 use Rattle.model.proofs.CountLaws.{count-cong}
@@ -51,7 +50,6 @@ pub record Made (b : Bands) (i : ℕ) (t : Tariff) : Type 0 where
   pub reaches : t .reach ≡ endOf (b .band) i
 
 pub made-none : (b : Bands) (t : Tariff) → t ≡ withoutBands → Made b 0 t
-unfolding costBefore sum
 made-none b t e =
     rw e
     record {
