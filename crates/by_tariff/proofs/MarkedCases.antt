@@ -21,7 +21,7 @@ use Rattle.tariff.proofs.BandBytes.{bandBytes}
 use Rattle.tariff.specs.declared.TariffChoice.{TariffChoice}
 use Rattle.tariff.specs.declared.TariffChoice.the-variants.{NoTariff, HouseTariff, GivenTariff}
 use Rattle.distances.specs.Priced.{pricedRecord, pricedAt, pricedSheet, question13, pricedBy, underGiven, sheetBy, readingBy}
-use Rattle.price.specs.Plan.{openRecord, farmRecord, totalRecord, movesRecord, planBytes, question9}
+use Rattle.plan_area.specs.Plan.{openRecord, farmRecord, totalRecord, movesRecord, planBytes, question9}
 use Rattle.price.specs.Pricing.{Plan, question8, pricing}
 use Rattle.price_by.specs.PricingBy.{pricingBy}
 use Rattle.search.specs.SearchEnds.{settledAt, openEnd, limitedEnd, planOf}

@@ -14,11 +14,11 @@ use Rattle.questions.specs.Sheet.{yards, farmByte, instanceOf}
 use Rattle.questions.specs.Reading.{Counts, counts, reading}
 use Rattle.questions.proofs.ReadingLaws.{refused-by}
 use Rattle.questions.proofs.AcceptedLaws.{WithinBounds, instance-is, door, accepts}
-use Rattle.price.specs.Plan.{question9, planSet}
+use Rattle.plan_area.specs.Plan.{question9, planSet}
 use Rattle.price.specs.Pricing.{Result, result, Plan, plan, plannedAnswer, answer, areaAfter, OfPlan, question8, pricing}
 use Rattle.price.specs.declared.Planned.{Planned}
 use Rattle.price.specs.declared.Planned.the-variants.{Written, Refused}
-use Rattle.price.proofs.PlanRecordLaws.{plan-length}
+use Rattle.plan_area.proofs.PlanRecordLaws.{plan-length}
 use Rattle.search.specs.SearchEnds.{openEnd, limitedEnd, planOf}
 use Rattle.search.specs.Planning.{openPlan, limitedPlan, question7, openPlanning, limitedPlanning}
 use Rattle.price.proofs.OfPlanLaws.{PlanOf, set-read-off, priced-set}

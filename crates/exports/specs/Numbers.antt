@@ -8,7 +8,7 @@ use Rattle.model.specs.Answers.{Answer, accepted, refused}
 use Rattle.questions.specs.Reading.{Counts}
 use Rattle.tariff.specs.declared.TariffChoice.{TariffChoice}
 use Rattle.tariff.specs.declared.TariffChoice.the-variants.{NoTariff, HouseTariff, GivenTariff}
-use Rattle.price.specs.Plan.{planSet}
+use Rattle.plan_area.specs.Plan.{planSet}
 use Rattle.price.specs.Pricing.{Result}
 
 -- Reading: from bit 8 the yards, from bit 16 the farms. A refused call gives its number alone.

@@ -2,10 +2,10 @@
 use libc::STDERR_FILENO;
 use libc::STDIN_FILENO;
 use libc::STDOUT_FILENO;
-use price::KIND_FARM;
-use price::KIND_MOVES;
-use price::KIND_OPEN;
-use price::KIND_TOTAL;
+use plan_area::KIND_FARM;
+use plan_area::KIND_MOVES;
+use plan_area::KIND_OPEN;
+use plan_area::KIND_TOTAL;
 use price::Planned;
 use record::Record;
 use sheet::MOST_BYTES;

@@ -18,13 +18,13 @@ use Rattle.questions.specs.Sheet.{yards, farmByte, instanceOf}
 use Rattle.questions.specs.Reading.{counts, reading}
 use Rattle.model.proofs.AnswerLaws.{same-result, not-both, asked, passed-first}
 use Rattle.questions.proofs.AcceptedLaws.{WithinBounds, door, facilities-read}
-use Rattle.price.specs.Plan.{planBytes, question9, planSet}
+use Rattle.plan_area.specs.Plan.{planBytes, question9, planSet}
 use Rattle.price.specs.Pricing.{Result, Plan, plan, plannedAnswer, answer, areaAfter, OfPlan, question8, pricing, SetKept}
 use Rattle.price.specs.declared.Planned.{Planned}
 use Rattle.price.specs.declared.Planned.the-variants.{Written, Refused}
 use Rattle.price.proofs.PricingLaws.{answered, marked}
-use Rattle.price.proofs.PlanSetLaws.{plan-set}
-use Rattle.price.proofs.PlanFarmLaws.{FarmsSent, farms-sent}
+use Rattle.plan_area.proofs.PlanSetLaws.{plan-set}
+use Rattle.plan_area.proofs.PlanFarmLaws.{FarmsSent, farms-sent}
 
 -- p is the plan of this set of the instance's facilities, which are 32 at most
 pub record PlanOf (set : ℕ) (p : Plan) : Type 0 where

@@ -1,5 +1,6 @@
 -- Laws of the calls that write a plan: what each answers and leaves in the area, and the cases of pricing.
-use Prim.Native.Nat.{ℕ, _^_, _≤_, _<_}
+use Prim.Native.Nat.{ℕ, _%_, _^_, _≤_, _<_}
+use native.Mathlib.Nat.{mod-eq-of-lt}
 use native.Mathlib.Omega.{arith}
 use mathlib.Core.Path.{_≡_, refl, sym, ap, ap₂, subst, _∙_}
 use mathlib.Core.Bool.{true, false}
@@ -20,10 +21,12 @@ use Rattle.questions.specs.Reading.{counts, reading}
 use Rattle.model.proofs.AnswerLaws.{same-result, not-both}
 use Rattle.questions.proofs.AcceptedLaws.{shape-of, instance-is, accepts, door}
 use Rattle.questions.proofs.CostBounds.{total-fits}
-use Rattle.price.specs.Plan.{planBytes, question9, writing}
+use Rattle.plan_area.specs.declared.plan.Total.{Total}
+use Rattle.plan_area.specs.declared.plan.Total.the-variants.{FullCost}
+use Rattle.plan_area.specs.Plan.{planBytes, question9, totalAmount, writing}
 use Rattle.price.specs.Pricing.{Result, result, Plan, plan, plannedAnswer, answer, areaAfter, question8, pricing}
 use Rattle.price.specs.declared.Planned.{Planned}
-use Rattle.price.proofs.PlanRecordLaws.{fits-within, writes-plan}
+use Rattle.plan_area.proofs.PlanRecordLaws.{fits-within, writes-plan}
 
 -- ---- what a call answers and leaves: its number and the area as it was, or the plan at the area's front
 
@@ -81,26 +84,26 @@ module _ (s : List ℕ) (set room : ℕ) where
 
 -- ---- what the writer leaves, of a sheet and an area that are long enough
 
-pub writes-of : (s : List ℕ) (m n set total moves room : ℕ) → Shape s m n → question9 m n room ≡ true
-    → writing s m n set total moves room ≡ planBytes (instanceBy s m n) (farmByte s m) set total moves
+pub writes-of : (s : List ℕ) (m n set : ℕ) (total : Total) (moves room : ℕ) → Shape s m n → question9 m n room ≡ true
+    → writing s m n set total moves room ≡ planBytes (instanceBy s m n) (farmByte s m) set (totalAmount total (totalCost (instanceBy s m n) (member set))) moves
 writes-of s m n set total moves room f q =
     writes-plan s m n set total moves room (fits-within m n room (f .some-yards) (f .few-yards) (f .few-farms) ∙ q) (f .room)
 
-module _ (s : List ℕ) (m n set total : ℕ) (e : reading s ≡ accepted (counts m n)) (t : total ≡ totalCost (instanceBy s m n) (member set)) where
-  total-is : total ≡ totalCost (instanceOf s) (member set)
-  total-is = t ∙ ap (λ I. totalCost I (member set)) (instance-is (accepts s m n e .has))
-
-  -- a full cost fits an amount
-  pub total-small : total < amountEnd
-  total-small = rw total-is (total-fits (instanceOf s) (door s m n e) (member set))
+module _ (s : List ℕ) (m n set : ℕ) (e : reading s ≡ accepted (counts m n)) where
+  -- a full cost fits an amount, so that the record of the total has all of it
+  total-is : totalAmount FullCost (totalCost (instanceBy s m n) (member set)) ≡ totalCost (instanceOf s) (member set)
+  total-is =
+      ap (λ I. totalCost I (member set) % amountEnd) (instance-is (accepts s m n e .has))
+      ∙ mod-eq-of-lt (total-fits (instanceOf s) (door s m n e) (member set))
 
   -- pricing that passes its questions writes the plan of the set
   pub prices : (area next : List ℕ) (bytes : ℕ) → question8 m set ≡ true → question9 m n (length area) ≡ true
-      → bytes ≡ length (writing s m n set total 0 (length area)) → next ≡ splice area 0 (writing s m n set total 0 (length area))
+      → bytes ≡ length (writing s m n set FullCost 0 (length area)) → next ≡ splice area 0 (writing s m n set FullCost 0 (length area))
       → (accepted (result bytes 0) ≡ answer (pricing s set (length area))) × (next ≡ areaAfter (pricing s set (length area)) area)
   prices area next bytes q h long put =
       let form = accepts s m n e .has in
-      let is = writes-of s m n set total 0 (length area) (shape-of form) h
+      let total = totalAmount FullCost (totalCost (instanceBy s m n) (member set)) in
+      let is = writes-of s m n set FullCost 0 (length area) (shape-of form) h
       ∙ ap₂ (λ I b. planBytes I b set total 0) (instance-is form) (ap (farmByte s) (sym (form .yards-are)))
       ∙ ap (λ (x : ℕ). planBytes (instanceOf s) (farmByte s (yards s)) set x 0) total-is in
       makes (pricing s set (length area)) area _ next bytes 0 (priced-plan s set (length area) m n e q h)

@@ -11,7 +11,7 @@ use Rattle.record.specs.Records.{splice}
 use Rattle.model.specs.Answers.{Answer, accepted, refused, ask, after}
 use Rattle.questions.specs.Sheet.{yards, farmByte, instanceOf}
 use Rattle.questions.specs.Reading.{reading}
-use Rattle.price.specs.Plan.{planBytes, question9, planSet}
+use Rattle.plan_area.specs.Plan.{planBytes, question9, planSet}
 use Rattle.price.specs.declared.Planned.{Planned}
 use Rattle.price.specs.declared.Planned.the-variants.{Written, Refused}
 

@@ -1,23 +1,11 @@
-// Pricing: the nearest open yard of each farm, what a set of yards costs, and the plan of it in the caller's area.
-//
-// `price` asks what reading asks and questions 8 and 9 of document 01, and writes the plan of the set that it is given. `write_plan`, with
-// `plan_fits`, writes the plan of any set for callers that have read the sheet. Every call is total.
-mod nearest;
-mod plan;
-
-pub use nearest::Nearest;
-pub use nearest::nearest_yard;
-pub use plan::KIND_FARM;
-pub use plan::KIND_MOVES;
-pub use plan::KIND_OPEN;
-pub use plan::KIND_TOTAL;
-pub use plan::plan_fits;
-pub use plan::write_plan;
+// Pricing a set of yards: `price` asks what reading asks and questions 8 and 9 of document 01, and writes the plan of the set that it is given. The
+// call is total.
 ghost use mathlib.Core.Path.{_≡_};
 ghost use Prim.Native.Nat.{_≤_};
 ghost use lib.ListN.{length};
 ghost use Rattle.questions.specs.Bounds.{mostYards};
 ghost use Rattle.price.specs.Pricing.{plannedAnswer, answer, areaAfter, question8, pricing, SetKept};
+use plan_area::Total;
 use sheet::Reading;
 
 // What a call that writes a plan answers: the bytes written and the moves made, or the number of the first question that is
@@ -37,21 +25,14 @@ pub fn price(sheet: &[u8], set: u32, area: &mut [u8]) -> Planned
     match sheet::read(sheet) {
         Reading::Accepted { yards, farms } => {
             let marked = set_good(yards, set);
-            let fits = plan_fits(yards, farms, area.len());
+            let fits = plan_area::plan_fits(yards, farms, area.len());
             if !marked {
                 return Planned::Refused(8);
             }
             if !fits {
                 return Planned::Refused(9);
             }
-            let totals = plan::put_yards_and_farms(sheet, yards, farms, set, area);
-            let bytes = plan::put_total_and_moves(
-                totals.open_yards,
-                farms,
-                totals.cost as u32,
-                0,
-                area,
-            );
+            let bytes = plan_area::write_plan(sheet, yards, farms, set, Total::FullCost, 0, area);
             Planned::Written { bytes, moves: 0 }
         }
         Reading::Refused(number) => Planned::Refused(number),

@@ -20,7 +20,8 @@ use Rattle.questions.specs.Reading.{counts, reading}
 use Rattle.model.proofs.AnswerLaws.{same-result, asked, passed-first}
 use Rattle.questions.proofs.AcceptedLaws.{instance-is, accepts, door}
 use Rattle.questions.proofs.CostBounds.{total-fits, service-fits}
-use Rattle.price.specs.Plan.{question9, writing}
+use Rattle.plan_area.specs.declared.plan.Total.the-variants.{Given}
+use Rattle.plan_area.specs.Plan.{question9, writing}
 use Rattle.price.specs.Pricing.{Plan, result, answer, areaAfter}
 use Rattle.price.proofs.PricingLaws.{makes, writes-of}
 use Rattle.engine.specs.declared.Neighbourhood.{Neighbourhood}
@@ -33,13 +34,13 @@ use Rattle.search.specs.PlanKinds.{endBy, planningBy}
 -- the writer, given a settled set, leaves its plan
 pub writes-settled : (s : List ℕ) (m n : ℕ) (r : Settled) (area next : List ℕ) (bytes : ℕ) → Shape s m n
     → question9 m n (length area) ≡ true
-    → bytes ≡ length (writing s m n (r .set) (r .cost) (r .moves) (length area))
-    → next ≡ splice area 0 (writing s m n (r .set) (r .cost) (r .moves) (length area))
+    → bytes ≡ length (writing s m n (r .set) (Given (r .cost)) (r .moves) (length area))
+    → next ≡ splice area 0 (writing s m n (r .set) (Given (r .cost)) (r .moves) (length area))
     → (accepted (result bytes (r .moves)) ≡ answer (accepted (planOf (instanceBy s m n) (farmByte s m) r)))
     × (next ≡ areaAfter (accepted (planOf (instanceBy s m n) (farmByte s m) r)) area)
 unfolding planOf
 writes-settled s m n r area next bytes shape q long put =
-    let is = writes-of s m n (r .set) (r .cost) (r .moves) (length area) shape q in
+    let is = writes-of s m n (r .set) (Given (r .cost)) (r .moves) (length area) shape q in
     makes (accepted (planOf (instanceBy s m n) (farmByte s m) r)) area _ next bytes (r .moves) refl (long ∙ ap length is) refl (put ∙ ap (splice area 0) is)
 
 -- ---- how large they are

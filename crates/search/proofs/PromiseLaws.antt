@@ -22,7 +22,7 @@ use Rattle.questions.proofs.AcceptedLaws.{WithinBounds, door, facilities-are, f
 use Rattle.price.specs.Pricing.{Plan, plannedAnswer, answer, areaAfter, OfPlan}
 use Rattle.price.specs.declared.Planned.{Planned}
 use Rattle.price.proofs.OfPlanLaws.{PlanOf, of-plan}
-use Rattle.price.proofs.PlanFarmLaws.{FarmsSent, farms-sent}
+use Rattle.plan_area.proofs.PlanFarmLaws.{FarmsSent, farms-sent}
 use Rattle.search.specs.SearchEnds.{settledAt, openEnd, limitedEnd, planOf}
 use Rattle.search.specs.Planning.{openPlan, limitedPlan, openPlanning, limitedPlanning}
 use Rattle.search.specs.Promises.{OfSize, LimitedPlanSized, NoOpenMove, OpenPlanSettled, NoLimitedMove, LimitedPlanSettled, BoundedByRivals, OpenPlanBounded, BoundedByRivalsOf, LimitedPlanBounded}

@@ -22,8 +22,8 @@ use Rattle.questions.specs.Reading.{counts, reading}
 use Rattle.questions.proofs.AcceptedLaws.{HasAmounts, accepts, shape-of}
 use Rattle.sheet.specs.Stretch.{stretch}
 use Rattle.sheet.proofs.FarmLaws.{stretch-record}
-use Rattle.price.proofs.PlanRecordLaws.{byte-on}
-use Rattle.price.specs.Nearest.{amountAt}
+use Rattle.plan_area.proofs.PlanRecordLaws.{byte-on}
+use Rattle.plan_area.specs.Nearest.{amountAt}
 use Rattle.engine.specs.Tables.{tabled, tableCost, goodTables}
 use Rattle.engine.specs.declared.Neighbourhood.{Neighbourhood}
 use Rattle.engine.specs.declared.Neighbourhood.the-variants.{AddDropSwap, Swap}

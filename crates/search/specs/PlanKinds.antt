@@ -7,7 +7,7 @@ use Rattle.model.specs.Plans.{limitedStart}
 use Rattle.model.specs.Answers.{Answer, accepted, ask, after}
 use Rattle.questions.specs.Sheet.{yards, farmByte, instanceOf}
 use Rattle.questions.specs.Reading.{reading}
-use Rattle.price.specs.Plan.{question9}
+use Rattle.plan_area.specs.Plan.{question9}
 use Rattle.price.specs.Pricing.{Plan}
 use Rattle.engine.specs.declared.Neighbourhood.{Neighbourhood}
 use Rattle.engine.specs.declared.Neighbourhood.the-variants.{AddDropSwap, Swap}

@@ -12,7 +12,7 @@ ghost use Rattle.questions.specs.Sheet.{farmByte, instanceBy};
 ghost use Rattle.questions.specs.Shape.{Shape};
 ghost use Rattle.model.specs.Answers.{accepted};
 ghost use Rattle.questions.specs.Reading.{counts, reading};
-ghost use Rattle.price.specs.Plan.{question9};
+ghost use Rattle.plan_area.specs.Plan.{question9};
 ghost use Rattle.price.specs.Pricing.{plannedAnswer, answer, areaAfter};
 ghost use Rattle.engine.specs.Tables.{tabled, tableCost, goodTables};
 ghost use Rattle.engine.specs.Moves.{neighboursBy};
@@ -25,6 +25,7 @@ use engine::Found;
 use engine::NO_LIMIT;
 use engine::Neighbourhood;
 use engine::Start;
+use plan_area::Total;
 use price::Planned;
 use sheet::MOST_FARMS;
 use sheet::MOST_YARDS;
@@ -57,7 +58,7 @@ pub(crate) fn plan_with(
             if yards < k {
                 return Planned::Refused(7);
             }
-            let fits = price::plan_fits(yards, farms, area.len());
+            let fits = plan_area::plan_fits(yards, farms, area.len());
             if !fits {
                 return Planned::Refused(9);
             }
@@ -145,6 +146,7 @@ fn write(sheet: &[u8], m: usize, n: usize, settled: Settled, area: &mut [u8]) ->
     ensures area { λ r. ⌜ now (area .exit) ≡ areaAfter (accepted (planOf (instanceBy (now (sheet .entry)) m n) (farmByte (now (sheet .entry)) m) settled)) (now (area .entry)) ⌝ }
 {
     let moves = settled.moves as u32;
-    let bytes = price::write_plan(sheet, m, n, settled.set, settled.cost as u32, moves, area);
+    let cost = settled.cost as u32;
+    let bytes = plan_area::write_plan(sheet, m, n, settled.set, Total::Given(cost), moves, area);
     Planned::Written { bytes, moves }
 }

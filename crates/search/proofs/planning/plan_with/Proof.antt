@@ -3,7 +3,7 @@ use mathlib.Core.Path.{sym, ap, _∙_}
 use Rattle.model.proofs.Bools.{said-no, said-yes}
 use Rattle.questions.specs.Reading.{readingAnswer}
 use Rattle.questions.proofs.AcceptedLaws.{accepts}
-use Rattle.price.proofs.PlanRecordLaws.{fits-within}
+use Rattle.plan_area.proofs.PlanRecordLaws.{fits-within}
 use Rattle.price.proofs.PricingLaws.{refuses, as-outcome}
 use Rattle.search.proofs.PlanningLaws.{too-few, too-many, k-good, unread, bad-k, no-room, planned}
 use borrow.Author.Needs.{needs}

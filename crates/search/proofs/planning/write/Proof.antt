@@ -7,8 +7,8 @@ use Rattle.search.proofs.planning.write.Tie as tie
 cast-moves : tie.Need-cast-moves
 cast-moves c = search needs
 
-cast-write-plan : tie.Need-cast-write-plan
-cast-write-plan c = search needs
+cast-cost : tie.Need-cast-cost
+cast-cost c = search needs
 
 write-plan-requires : tie.Need-write-plan-requires
 write-plan-requires c κs = search needs
@@ -25,7 +25,7 @@ write-spec =
     tie.close
     (tie.spec
     cast-moves
-    cast-write-plan
+    cast-cost
     write-plan-requires
     same-length
     returns)

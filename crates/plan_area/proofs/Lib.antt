@@ -1,0 +1,7 @@
+-- NearestLaws: a farm's nearest yard. SheetCostLaws: what a set costs on a sheet.
+-- PlanRecordLaws: the records of a plan. PlanSetLaws: a plan's set, read off its records. PlanFarmLaws: where a farm is sent, read off its record.
+pub mod NearestLaws
+pub mod SheetCostLaws
+pub mod PlanRecordLaws
+pub mod PlanSetLaws
+pub mod PlanFarmLaws

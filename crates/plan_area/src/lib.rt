@@ -1,0 +1,15 @@
+// The plan area: a farm's nearest open yard, and the records of a plan in an area that the caller lends.
+//
+// `write_plan`, with `plan_fits`, writes the plan of any set for callers that have read the sheet. Every call is total.
+mod nearest;
+mod plan;
+
+pub use nearest::Nearest;
+pub use nearest::nearest_yard;
+pub use plan::KIND_FARM;
+pub use plan::KIND_MOVES;
+pub use plan::KIND_OPEN;
+pub use plan::KIND_TOTAL;
+pub use plan::Total;
+pub use plan::plan_fits;
+pub use plan::write_plan;
