@@ -21,8 +21,8 @@ use Rattle.model.proofs.CountLaws.{count-missing}
 use Rattle.model.proofs.PassingLaws.{through-more, through-keeps, through-holds}
 use Rattle.sets.specs.Within.{with32}
 use Rattle.sets.proofs.WithinLaws.{with32-below}
+use Rattle.tables.specs.Tables.{tableCost}
 use Rattle.engine.specs.Bounds.{mostCost, topBit, lossFrom, moreFrom}
-use Rattle.engine.specs.Tables.{tableCost}
 use Rattle.engine.specs.Rows.{dearAt}
 use Rattle.engine.specs.Near.{Listed}
 use Rattle.engine.specs.Moves.{MovePrices, cheaper, atPlace, tryAdd, addAtCost, bestAdd, tryDrop, bestDrop, swapAtCost, bestSwapOut, swapOut, bestSwap, bestMove, listedOpenings, priced, neighboursBy}

@@ -11,7 +11,7 @@ use Rattle.model.specs.TwoLeast.{Two, insert}
 use Rattle.model.proofs.LoopLaws.{up-to}
 use Rattle.sets.specs.declared.Members.{Members}
 use Rattle.sets.specs.Members.{membersOf}
-use Rattle.engine.specs.Bounds.{mostClients}
+use Rattle.tables.specs.Bounds.{mostClients}
 use Rattle.engine.specs.Near.{InOrder, nearTwo, twoOf, nearOf, Moved, arrivalAt, goesTo, Listed}
 use Rattle.engine.specs.Sums.{firstAt, secondAt, NearAt, Uncounted, NearUpTo, NearFrom, Others, PutAt}
 use Rattle.engine.specs.declared.near.Near.{Near}

@@ -17,7 +17,9 @@ use Rattle.model.proofs.SumLaws.{sum-bound, sum-term, sum-cong, sum-zero, on-ze
 use Rattle.model.proofs.PlaceLaws.{row-within, few-places}
 use Rattle.rows.specs.Shifts.{halfEnd, shifted, shiftedIn, shiftedOut}
 use Rattle.rows.proofs.ExactLaws.{Shiftable, Shifted, ShiftedBoth, exactly-shifted, exactly-in, exactly-out}
-use Rattle.engine.specs.Bounds.{mostEntry, noFacility, mostServed, secondsFrom, addedFrom, lossFrom, moreFrom, keptLength}
+use Rattle.tables.specs.Bounds.{mostEntry}
+use Rattle.tables.proofs.BoundLaws.{entry-small}
+use Rattle.engine.specs.Bounds.{noFacility, mostServed, secondsFrom, addedFrom, lossFrom, moreFrom, keptLength}
 use Rattle.engine.specs.Rows.{entry, Rows, ColumnSums}
 use Rattle.engine.specs.Sums.{firstAt, secondAt, addedSum, moreSum, lossSum, Kept, Uncounted}
 
@@ -63,6 +65,13 @@ loss-little o first second small = omega (arith, on-le (eqb (first % 32) o) (sec
 -- the cost in a number of facility and cost is within its bound
 pub divided-cost : (x : ℕ) → x ≤ noFacility → x / 32 ≤ mostEntry
 divided-cost x l = omega arith
+
+-- a cost within its bound is in the lower half of 32 bits
+entry-low : (c : ℕ) → c ≤ mostEntry → c < halfEnd
+entry-low c within = below c mostEntry halfEnd within entry-small
+  where
+    below : (c top end : ℕ) → c ≤ top → top < end → c < end
+    below c top end small ends = omega arith
 
 -- ---- how large the sums are
 
@@ -150,10 +159,10 @@ module _ {m n : ℕ} {service kept : List ℕ} (sums : Kept m n service kept) wh
         )
 
     cost-low : (i : ℕ) → i < 32 → entry m service j i < halfEnd
-    cost-low i l = omega (arith, sums .rows .within (j * m + i))
+    cost-low i l = entry-low (entry m service j i) (sums .rows .within (j * m + i))
 
     near-low : (x : ℕ) → x ≤ noFacility → x / 32 < halfEnd
-    near-low x l = omega arith
+    near-low x l = entry-low (x / 32) (divided-cost x l)
 
     first-within : firstAt kept j ≤ noFacility
     first-within = le-trans (sums .ordered j client) (sums .within j client)
@@ -190,7 +199,7 @@ module _ {m n : ℕ} {service kept : List ℕ} (sums : Kept m n service kept) wh
         exactly-in row (entry m service j) row-long row-entries (λ i l. sums .rows .within (j * m + i)) (omega arith) (omega arith)
         (record {
           costs-low = cost-low;
-          plus-low = omega arith;
+          plus-low = entry-small;
           minus-low = near-low first (le-trans ordered within);
           room = omega (arith, sums .room);
           enough =
@@ -222,7 +231,7 @@ module _ {m n : ℕ} {service kept : List ℕ} (sums : Kept m n service kept) wh
         (record {
           costs-low = cost-low;
           plus-low = near-low (firstAt kept j) first-within;
-          minus-low = omega arith;
+          minus-low = entry-small;
           room = omega (arith, sums .room);
           enough = λ i l. omega (arith, sums .rows .within (j * m + i));
           small = λ i l. omega (arith, added-small i l, sums .rows .within (j * m + i));

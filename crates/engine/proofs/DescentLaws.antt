@@ -20,7 +20,7 @@ use Rattle.model.proofs.LimitLaws.{within-turn, within-full}
 use Rattle.model.proofs.PlanLaws.{start-one, start-more}
 use Rattle.sets.specs.Within.{with32}
 use Rattle.sets.proofs.WithinLaws.{with32-below}
-use Rattle.engine.specs.Tables.{tabled, tableCost}
+use Rattle.tables.specs.Tables.{tabled, tableCost}
 use Rattle.engine.specs.Moves.{priced, neighboursBy}
 use Rattle.engine.specs.SearchOnTables.{found}
 use Rattle.engine.specs.declared.moves.Priced.{Priced}

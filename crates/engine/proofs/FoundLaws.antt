@@ -16,8 +16,9 @@ use Rattle.model.proofs.NeighbourLaws.{moves-keep, swaps-keep}
 use Rattle.model.proofs.PlanLaws.{open-start}
 use Rattle.model.proofs.LimitLaws.{settled-search}
 use Rattle.model.proofs.FewStepsLaws.{never-stopped}
+use Rattle.tables.specs.Tables.{tabled, tableCost, goodTables}
+use Rattle.tables.proofs.LentTableLaws.{good-when}
 use Rattle.engine.specs.Bounds.{noLimit}
-use Rattle.engine.specs.Tables.{tabled, tableCost, goodTables}
 use Rattle.engine.specs.Moves.{neighboursBy}
 use Rattle.engine.specs.SearchOnTables.{goodStart, startSet, found, searching}
 use Rattle.engine.specs.declared.Neighbourhood.{Neighbourhood}
@@ -25,7 +26,6 @@ use Rattle.engine.specs.declared.Neighbourhood.the-variants.{AddDropSwap
 use Rattle.engine.specs.declared.Start.{Start}
 use Rattle.engine.specs.declared.Start.the-variants.{Cheapest, Set}
 use Rattle.engine.specs.declared.Found.the-variants.{Settled}
-use Rattle.engine.proofs.LentTableLaws.{good-when}
 
 -- a good start is a set of facilities that has one
 module _ (start : Start) (m n : ℕ) (opening service : List ℕ) (some : 1 ≤ m) (good : goodStart m start ≡ true) where

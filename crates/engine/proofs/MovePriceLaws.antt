@@ -19,13 +19,15 @@ use Rattle.model.proofs.CountLaws.{count-minus}
 use Rattle.model.proofs.LeastLaws.{any-counted}
 use Rattle.model.proofs.CostLaws.{opening-plus, opening-minus, opening-trade}
 use Rattle.model.proofs.NearestChangeLaws.{nearestTwo, nearest-first, nearest-with, nearest-without, nearest-trade}
-use Rattle.engine.specs.Bounds.{mostEntry, mostOpening, mostServed, mostOpened, mostCost, addedFrom, lossFrom, moreFrom}
-use Rattle.engine.specs.Tables.{tabled, tableCost, Openings}
+use Rattle.tables.specs.Bounds.{mostEntry, mostOpening}
+use Rattle.tables.specs.Tables.{tabled, tableCost}
+use Rattle.tables.proofs.LentTableLaws.{service-sum}
+use Rattle.engine.specs.Bounds.{mostServed, mostOpened, mostCost, addedFrom, lossFrom, moreFrom}
+use Rattle.engine.specs.Tables.{Openings}
 use Rattle.engine.specs.Rows.{entry, Adding, Added}
 use Rattle.engine.specs.Near.{nearTwo}
 use Rattle.engine.specs.Sums.{firstAt, secondAt, addedSum, moreSum, lossSum, KeptOf, Costs}
 use Rattle.engine.specs.Moves.{MovePrices}
-use Rattle.engine.proofs.LentTableLaws.{service-sum}
 use Rattle.engine.proofs.ClientSumLaws.{kept-small}
 
 -- ---- one client

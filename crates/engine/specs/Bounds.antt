@@ -1,26 +1,9 @@
--- The numbers of the engine, each named here and nowhere written again: bounds of the tables, and where the stretches of the kept table begin.
+-- The numbers of the engine, each named here and nowhere written again: what follows from the bounds of the tables (crate `tables`), and where the
+-- stretches of the kept table begin.
 use Prim.Native.Nat.{ℕ, _+_, _-_, _*_, _^_}
-use Rattle.rows.specs.Shifts.{columns}
+use Rattle.tables.specs.Bounds.{mostFacilities, mostClients, mostEntry, mostOpening}
 
--- ---- what the engine takes
-
--- the facilities: one for each column of a row of service costs
-abbrev pub mostFacilities : ℕ
-mostFacilities = columns
-
--- the clients
-abbrev pub mostClients : ℕ
-mostClients = 128
-
--- a service cost: below 2 ^ 31, so that differences of two do not wrap
-abbrev pub mostEntry : ℕ
-mostEntry = 2000000000
-
--- an opening cost
-abbrev pub mostOpening : ℕ
-mostOpening = 4000000000
-
--- ---- what follows
+-- ---- what follows from the bounds
 
 -- no search makes so many moves: no set comes twice in it
 abbrev pub noLimit : ℕ

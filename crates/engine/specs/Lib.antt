@@ -1,5 +1,5 @@
--- SearchOnTables: what the call answers, and which starts are taken. Tables: the instance of two tables, and which are taken. Bounds: every number of the engine.
--- Moves has the lists of moves; all else, in Rows, Near, Sums and Moves, is for private functions alone.
+-- SearchOnTables: what the call answers, and which starts are taken; which tables are, crate `tables` says. Bounds: every number of the engine that is
+-- not a bound of the tables. Moves has the lists of moves; all else, in Tables, Rows, Near, Sums and Moves, is for private functions alone.
 pub mod Bounds
 pub mod Tables
 pub mod Rows

@@ -11,8 +11,9 @@ use Rattle.model.specs.Passing.{through}
 use Rattle.model.specs.Sets.{count, member, with, without}
 use Rattle.model.specs.Neighbours.{swaps, addDropSwap}
 use Rattle.sets.specs.Within.{with32}
-use Rattle.engine.specs.Bounds.{mostFacilities, mostOpening, mostServed, mostAdded, mostCost, addedFrom, lossFrom, moreFrom, keptLength}
-use Rattle.engine.specs.Tables.{tableCost}
+use Rattle.tables.specs.Bounds.{mostFacilities, mostOpening}
+use Rattle.tables.specs.Tables.{tableCost}
+use Rattle.engine.specs.Bounds.{mostServed, mostAdded, mostCost, addedFrom, lossFrom, moreFrom, keptLength}
 use Rattle.engine.specs.Rows.{Row}
 use Rattle.engine.specs.declared.moves.Priced.{Priced}
 use Rattle.engine.specs.declared.Neighbourhood.{Neighbourhood}

@@ -8,7 +8,8 @@ use Rattle.model.specs.Loops.{leading}
 use Rattle.model.specs.Sets.{member, plus, minus}
 use Rattle.model.specs.TwoLeast.{Two, two, twoLeast, packed}
 use Rattle.sets.specs.Members.{membersOf}
-use Rattle.engine.specs.Bounds.{mostFacilities, noFacility}
+use Rattle.tables.specs.Bounds.{mostFacilities}
+use Rattle.engine.specs.Bounds.{noFacility}
 use Rattle.engine.specs.Rows.{entry, Rows}
 use Rattle.engine.specs.declared.near.Near.{Near}
 

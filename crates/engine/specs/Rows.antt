@@ -6,7 +6,8 @@ use mathlib.Core.List.{List}
 use lib.Dec.{leb}
 use lib.ListN.{length, getD}
 use Rattle.model.specs.Loops.{sum}
-use Rattle.engine.specs.Bounds.{mostFacilities, mostClients, mostEntry, mostServed, mostAdded, addedFrom, lossFrom}
+use Rattle.tables.specs.Bounds.{mostFacilities, mostClients, mostEntry}
+use Rattle.engine.specs.Bounds.{mostServed, mostAdded, addedFrom, lossFrom}
 
 -- the entry of facility i in client j's row; past the row's end, entries of the rows behind it, which no move goes by
 abbrev pub entry : ℕ → List ℕ → ℕ → ℕ → ℕ

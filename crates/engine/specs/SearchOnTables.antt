@@ -6,7 +6,7 @@ use lib.Dec.{leb, ltb}
 use Rattle.model.specs.Instance.{Instance}
 use Rattle.model.specs.Limit.{Outcome, searchWithin}
 use Rattle.model.specs.Plans.{openStart}
-use Rattle.engine.specs.Tables.{tabled, tableCost, goodTables}
+use Rattle.tables.specs.Tables.{tabled, tableCost, goodTables}
 use Rattle.engine.specs.Moves.{neighboursBy}
 use Rattle.engine.specs.declared.Neighbourhood.{Neighbourhood}
 use Rattle.engine.specs.declared.Start.{Start}

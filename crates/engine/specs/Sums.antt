@@ -10,8 +10,10 @@ use Rattle.model.specs.Loops.{on, sum}
 use Rattle.model.specs.Least.{any}
 use Rattle.model.specs.Sets.{member}
 use Rattle.model.specs.Instance.{openingCost}
-use Rattle.engine.specs.Bounds.{mostFacilities, mostClients, noFacility, secondsFrom, addedFrom, lossFrom, moreFrom, keptLength}
-use Rattle.engine.specs.Tables.{tabled, Openings, Copied}
+use Rattle.tables.specs.Bounds.{mostFacilities, mostClients}
+use Rattle.tables.specs.Tables.{tabled}
+use Rattle.engine.specs.Bounds.{noFacility, secondsFrom, addedFrom, lossFrom, moreFrom, keptLength}
+use Rattle.engine.specs.Tables.{Openings, Copied}
 use Rattle.engine.specs.Rows.{entry, Rows, ColumnSums}
 use Rattle.engine.specs.Near.{nearTwo}
 

@@ -1,11 +1,7 @@
 // The numbers of the engine (specs/Bounds.antt says what each is for).
-pub(crate) const MOST_FACILITIES: usize = rows::COLUMNS;
-
-pub(crate) const MOST_CLIENTS: usize = 128;
-
-pub(crate) const MOST_ENTRY: u32 = 2000000000;
-
-pub(crate) const MOST_OPENING: u64 = 4000000000;
+use tables::MOST_CLIENTS;
+use tables::MOST_ENTRY;
+use tables::MOST_FACILITIES;
 
 // No search makes so many moves: no set comes twice in it.
 pub const NO_LIMIT: u64 = 4294967295;

@@ -4,10 +4,9 @@ ghost use mathlib.Core.Bool.{true};
 ghost use Prim.Native.Nat.{_^_, _<_};
 ghost use Rattle.model.specs.Least.{any};
 ghost use Rattle.model.specs.Sets.{member};
-ghost use Rattle.engine.specs.Bounds.{mostFacilities};
+ghost use Rattle.tables.specs.Bounds.{mostFacilities};
 ghost use Rattle.engine.specs.Near.{Moved, newIn, Listed};
 ghost use Rattle.engine.specs.Sums.{Kept, NearAt, KeptOf, Uncounted, NearUpTo, NearFrom, Others};
-use crate::bounds::MOST_FACILITIES;
 use crate::bounds::SECONDS;
 use crate::near::Near;
 use crate::near::arrival;
@@ -18,6 +17,7 @@ use crate::near::near_of;
 use crate::near::newcomer;
 use crate::sums::change;
 use crate::sums::enter;
+use tables::MOST_FACILITIES;
 
 // Client j, of which nothing is counted yet.
 fn begin_client(

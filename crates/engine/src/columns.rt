@@ -2,10 +2,11 @@
 ghost use mathlib.Core.Path.{_≡_};
 ghost use Prim.Native.Nat.{_≤_};
 ghost use lib.ListN.{length};
-ghost use Rattle.engine.specs.Bounds.{mostFacilities, keptLength};
+ghost use Rattle.tables.specs.Bounds.{mostFacilities};
+ghost use Rattle.engine.specs.Bounds.{keptLength};
 ghost use Rattle.engine.specs.Rows.{Rows, Addable, RowAdded, Aside, NoSums, ColumnSums};
 use crate::bounds::ADDED;
-use crate::bounds::MOST_FACILITIES;
+use tables::MOST_FACILITIES;
 
 // Adds a row to the sums of its columns.
 fn add_row(service: &[u32], row: usize, width: usize, kept: &mut [u64])

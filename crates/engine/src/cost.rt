@@ -3,13 +3,13 @@ ghost use mathlib.Core.Path.{_≡_};
 ghost use Prim.Native.Nat.{_/_, _≤_};
 ghost use lib.ListN.{length, getD};
 ghost use Rattle.model.specs.Loops.{sum};
-ghost use Rattle.engine.specs.Bounds.{mostFacilities, mostClients, mostOpening};
+ghost use Rattle.tables.specs.Bounds.{mostFacilities, mostClients, mostOpening};
 ghost use Rattle.engine.specs.Rows.{Adding, Added};
 ghost use Rattle.engine.specs.Sums.{FirstsWithin};
 ghost use Rattle.engine.specs.Moves.{ListedWithin, listedOpenings};
 use crate::bounds::ADDED;
 use crate::bounds::COST_STEP;
-use crate::bounds::MOST_FACILITIES;
+use tables::MOST_FACILITIES;
 
 // What opening the listed facilities costs.
 pub(crate) fn openings_of(opening: &[u64], list: &[u8], count: usize) -> u64

@@ -8,8 +8,9 @@ ghost use Rattle.model.specs.Sets.{member};
 ghost use Rattle.model.specs.Search.{next};
 ghost use Rattle.model.specs.Limit.{searchWithin};
 ghost use Rattle.model.specs.Plans.{openStart};
+ghost use Rattle.tables.specs.Tables.{tabled, tableCost};
 ghost use Rattle.engine.specs.Bounds.{keptLength};
-ghost use Rattle.engine.specs.Tables.{tabled, tableCost, Openings};
+ghost use Rattle.engine.specs.Tables.{Openings};
 ghost use Rattle.engine.specs.Rows.{Rows, ColumnSums};
 ghost use Rattle.engine.specs.Sums.{Kept, KeptOf, NearUpTo};
 ghost use Rattle.engine.specs.Moves.{priced, neighboursBy};
@@ -18,7 +19,6 @@ use crate::Found;
 use crate::Neighbourhood;
 use crate::Start;
 use crate::bounds::ADDED;
-use crate::bounds::MOST_FACILITIES;
 use crate::clients::begin;
 use crate::clients::move_to;
 use crate::cost::add_up;
@@ -27,6 +27,7 @@ use crate::cost::openings_of;
 use crate::moves::Priced;
 use crate::moves::best_move;
 use crate::moves::better_of;
+use tables::MOST_FACILITIES;
 
 // The single facility of least cost, the lowest number among equals: its opening cost and the sum of its column.
 fn cheapest(opening: &[u64], service: &[u32], m: usize, n: usize, kept: &[u64]) -> Priced

@@ -1,32 +1,33 @@
 // Local search over sets of facilities, on tables: no sheet, no record, no area.
 //
 // `search` goes from a start by the moves asked for, adds, drops and swaps or swaps alone, while they lower the total cost of the set by the
-// tables, and with at most so many of them. It prices every move by sums over the clients that it keeps from move to move. It looks through
-// the tables and the start itself: it takes any, and turns down what specs/SearchOnTables.antt says.
+// tables, and with at most so many of them. It prices every move by sums over the clients that it keeps from move to move. It has the
+// tables looked through (crate `tables`) and looks at the start itself: it takes any, and turns down what specs/SearchOnTables.antt says.
 mod bounds;
 mod clients;
 mod columns;
+mod copies;
 mod cost;
 mod descent;
 mod moves;
 mod near;
 mod sums;
-mod tables;
 
 pub use bounds::NO_LIMIT;
 ghost use mathlib.Core.Path.{_≡_};
 ghost use mathlib.Core.Bool.{true};
 ghost use Rattle.model.specs.Limit.{searchWithin};
-ghost use Rattle.engine.specs.Tables.{tabled, tableCost, goodTables, Blank};
+ghost use Rattle.tables.specs.Tables.{tabled, tableCost, goodTables};
+ghost use Rattle.engine.specs.Tables.{Blank};
 ghost use Rattle.engine.specs.Sums.{Prepared};
 ghost use Rattle.engine.specs.Moves.{neighboursBy};
 ghost use Rattle.engine.specs.SearchOnTables.{goodStart, startSet, found, searching};
 use bounds::ADDED;
 use bounds::KEPT;
-use bounds::MOST_FACILITIES;
 use bounds::NO_FACILITY;
 use bounds::NO_OPENING;
 use bounds::SERVICE;
+use tables::MOST_FACILITIES;
 
 // Which moves a search makes.
 pub enum Neighbourhood {
@@ -63,7 +64,7 @@ pub fn search(
     if !tables::tables_good(opening, service, m, n) {
         return Found::Refused;
     }
-    if !tables::start_good(m, start) {
+    if !copies::start_good(m, start) {
         return Found::Refused;
     }
     search_on(moves, start, limit, opening, service, m, n)
@@ -82,9 +83,9 @@ fn prepare(
     requires { ⌜ (goodTables m n (now opening) (now service) ≡ true) × Blank (now openings) (now rows) (now kept) ⌝ }
     ensures { λ _. ⌜ Prepared m n (now (opening .entry)) (now (service .entry)) (now (openings .exit)) (now (rows .exit)) (now (kept .exit)) ⌝ }
 {
-    tables::copy_opening(opening, m, openings);
-    tables::copy_service(service, n * m, rows);
-    tables::put_front(ADDED, NO_FACILITY, kept);
+    copies::copy_opening(opening, m, openings);
+    copies::copy_service(service, n * m, rows);
+    copies::put_front(ADDED, NO_FACILITY, kept);
     columns::add_rows(rows, m, n, kept);
 }
 

@@ -6,14 +6,15 @@ ghost use mathlib.Core.Path.{_≡_};
 ghost use Prim.Native.Nat.{_≤_};
 ghost use lib.ListN.{length};
 ghost use Rattle.model.specs.Sets.{count};
-ghost use Rattle.engine.specs.Bounds.{mostFacilities, mostCost, topBit};
+ghost use Rattle.tables.specs.Bounds.{mostFacilities};
+ghost use Rattle.engine.specs.Bounds.{mostCost, topBit};
 ghost use Rattle.engine.specs.Rows.{Row, dearAt};
 ghost use Rattle.engine.specs.Moves.{cheaper, tryAdd, bestAdd, ListedWithin, Losses, bestDrop, SwapRow, bestSwapOut, SwapRows, bestSwap, bestMove};
 use crate::Neighbourhood;
 use crate::bounds::LOSS;
 use crate::bounds::MORE;
-use crate::bounds::MOST_FACILITIES;
 use crate::bounds::TOP_BIT;
+use tables::MOST_FACILITIES;
 
 // A set with its cost.
 pub struct Priced {

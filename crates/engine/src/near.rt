@@ -6,8 +6,8 @@ ghost use Rattle.sets.specs.Members.{membersOf};
 ghost use Rattle.engine.specs.Rows.{Rows, entry};
 ghost use Rattle.engine.specs.Near.{nearTwo, twoOf, nearOf, newIn, arrivalAt, goesTo, Moving};
 use crate::bounds::COST_STEP;
-use crate::bounds::MOST_FACILITIES;
 use crate::bounds::NO_FACILITY;
+use tables::MOST_FACILITIES;
 
 // A client's two nearest facilities, each with its cost in one number.
 pub struct Near {

@@ -7,13 +7,13 @@ use crate::bounds::ADDED;
 use crate::bounds::COST_STEP;
 use crate::bounds::LOSS;
 use crate::bounds::MORE;
-use crate::bounds::MOST_FACILITIES;
 use crate::bounds::NO_FACILITY;
 use crate::bounds::SECONDS;
 use crate::near::Near;
 use rows::shift;
 use rows::shift_in;
 use rows::shift_out;
+use tables::MOST_FACILITIES;
 
 // Client j's second nearest is now this one.
 pub(crate) fn set_second(

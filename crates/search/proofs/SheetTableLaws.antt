@@ -24,11 +24,11 @@ use Rattle.sheet.specs.Stretch.{stretch}
 use Rattle.sheet.proofs.FarmLaws.{stretch-record}
 use Rattle.plan_area.proofs.PlanRecordLaws.{byte-on}
 use Rattle.plan_area.specs.Nearest.{amountAt}
-use Rattle.engine.specs.Tables.{tabled, tableCost, goodTables}
+use Rattle.tables.specs.Tables.{tabled, tableCost, goodTables}
+use Rattle.tables.proofs.LentTableLaws.{good-from}
 use Rattle.engine.specs.declared.Neighbourhood.{Neighbourhood}
 use Rattle.engine.specs.declared.Neighbourhood.the-variants.{AddDropSwap, Swap}
 use Rattle.model.proofs.PlaceLaws.{front-more, row-within, few-places}
-use Rattle.engine.proofs.LentTableLaws.{good-from}
 use Rattle.search.specs.SheetTables.{Holds, loadedHaul, Free, OpeningBy}
 
 -- ---- filling a table

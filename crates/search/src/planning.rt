@@ -14,13 +14,13 @@ ghost use Rattle.model.specs.Answers.{accepted};
 ghost use Rattle.questions.specs.Reading.{counts, reading};
 ghost use Rattle.plan_area.specs.Plan.{question9};
 ghost use Rattle.price.specs.Pricing.{plannedAnswer, answer, areaAfter};
-ghost use Rattle.engine.specs.Tables.{tabled, tableCost, goodTables};
+ghost use Rattle.tables.specs.Tables.{tabled, tableCost, goodTables};
 ghost use Rattle.engine.specs.Moves.{neighboursBy};
 ghost use Rattle.engine.specs.SearchOnTables.{startSet};
 ghost use Rattle.search.specs.SheetTables.{Free, OpeningBy};
 ghost use Rattle.search.specs.SearchEnds.{settledAt, planOf};
 ghost use Rattle.search.specs.PlanKinds.{startBy, endBy, planningBy};
-use crate::tables;
+use crate::sheet_tables;
 use engine::Found;
 use engine::NO_LIMIT;
 use engine::Neighbourhood;
@@ -85,7 +85,7 @@ fn plan_by(
     let mut opening = [0u64; MOST_YARDS];
     let mut service = [0u32; HAULS];
     fill_opening(neighbourhood, sheet, m, n, &mut opening);
-    tables::fill_rows(sheet, m, n, &mut service);
+    sheet_tables::fill_rows(sheet, m, n, &mut service);
     let settled = search_on(neighbourhood, &opening, &service, m, n, k);
     write(sheet, m, n, settled, area)
 }
@@ -96,7 +96,7 @@ fn fill_opening(neighbourhood: Neighbourhood, sheet: &[u8], m: usize, n: usize, 
     ensures { λ _. ⌜ OpeningBy neighbourhood (now (sheet .entry)) m (now (opening .exit)) ⌝ }
 {
     match neighbourhood {
-        Neighbourhood::AddDropSwap => tables::fill_fees(sheet, m, opening),
+        Neighbourhood::AddDropSwap => sheet_tables::fill_fees(sheet, m, opening),
         Neighbourhood::Swap => {}
     }
 }

@@ -10,7 +10,8 @@ use Rattle.model.proofs.LoopLaws.{up-to}
 use Rattle.model.proofs.SumLaws.{sum-none, sum-more, sum-bound}
 use Rattle.model.proofs.PlaceLaws.{row-within}
 use Rattle.rows.specs.Shifts.{wordEnd}
-use Rattle.engine.specs.Bounds.{mostEntry, addedFrom, keptLength}
+use Rattle.tables.specs.Bounds.{mostEntry}
+use Rattle.engine.specs.Bounds.{addedFrom, keptLength}
 use Rattle.engine.specs.Rows.{Rows, entry, Addable, RowAdded, Aside, NoSums, ColumnSums}
 
 -- ---- adding a row

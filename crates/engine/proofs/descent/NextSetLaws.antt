@@ -12,8 +12,10 @@ use Rattle.model.specs.Instance.{openingCost, totalCost}
 use Rattle.model.specs.Search.{next}
 use Rattle.model.specs.Plans.{openCost}
 use Rattle.model.proofs.SumLaws.{sum-term}
-use Rattle.engine.specs.Bounds.{mostOpening, mostCost, lossFrom, moreFrom}
-use Rattle.engine.specs.Tables.{tabled, tableCost, Openings}
+use Rattle.tables.specs.Bounds.{mostOpening}
+use Rattle.tables.specs.Tables.{tabled, tableCost}
+use Rattle.engine.specs.Bounds.{mostCost, lossFrom, moreFrom}
+use Rattle.engine.specs.Tables.{Openings}
 use Rattle.engine.specs.Rows.{Added}
 use Rattle.engine.specs.Near.{Listed}
 use Rattle.engine.specs.Sums.{KeptOf}

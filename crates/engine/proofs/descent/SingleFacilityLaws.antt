@@ -18,12 +18,14 @@ use Rattle.model.proofs.NearestChangeLaws.{nearestTwo, nearest-with}
 use Rattle.sets.specs.Within.{with32}
 use Rattle.sets.proofs.WithinLaws.{with32-below}
 use Rattle.rows.specs.Shifts.{wordEnd}
-use Rattle.engine.specs.Bounds.{mostEntry, noFacility, mostServed, addedFrom}
-use Rattle.engine.specs.Tables.{tabled, tableCost, Openings}
+use Rattle.tables.specs.Bounds.{mostEntry}
+use Rattle.tables.specs.Tables.{tabled, tableCost}
+use Rattle.tables.proofs.LentTableLaws.{service-sum}
+use Rattle.engine.specs.Bounds.{noFacility, mostServed, addedFrom}
+use Rattle.engine.specs.Tables.{Openings}
 use Rattle.engine.specs.Rows.{entry, Rows, ColumnSums}
 use Rattle.engine.specs.Moves.{priced, cheaper}
 use Rattle.engine.specs.declared.moves.Priced.{Priced}
-use Rattle.engine.proofs.LentTableLaws.{service-sum}
 use Rattle.engine.proofs.MoveLaws.{set-of, prices, cheaper-is-better}
 use Rattle.engine.proofs.DescentLaws.{Cheapest, cheapest-one, cheapest-more}
 

@@ -4,9 +4,9 @@ use Prim.Native.Nat.{_+_}
 use native.Mathlib.Omega.{arith}
 use borrow.Author.Needs.{needs}
 use Rattle.model.proofs.PlaceLaws.{few-places}
+use Rattle.tables.proofs.LentTableLaws.{good-when}
 use Rattle.engine.specs.Bounds.{addedFrom}
-use Rattle.engine.proofs.LentTableLaws.{good-when, rows-of}
-use Rattle.engine.proofs.CopiedTableLaws.{prepared}
+use Rattle.engine.proofs.CopiedTableLaws.{rows-of, prepared}
 use Rattle.engine.proofs.prepare.Statement.{statement}
 use Rattle.engine.proofs.prepare.Tie as tie
 

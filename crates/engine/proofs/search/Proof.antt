@@ -1,8 +1,8 @@
 -- `search` meets its contract.
 use borrow.Author.Needs.{needs}
 use Rattle.model.proofs.Bools.{said-no, said-yes}
+use Rattle.tables.proofs.LentTableLaws.{good-when}
 use Rattle.engine.specs.SearchOnTables.{searching}
-use Rattle.engine.proofs.LentTableLaws.{good-when}
 use Rattle.engine.proofs.search.Statement.{statement}
 use Rattle.engine.proofs.search.Tie as tie
 

@@ -1,8 +1,8 @@
 -- `search_on` meets its contract: the search on the copies is that on the tables.
 use borrow.Author.Needs.{needs}
-use Rattle.engine.proofs.LentTableLaws.{blank, good-when}
+use Rattle.tables.proofs.LentTableLaws.{good-when}
 use Rattle.engine.proofs.ClientLaws.{none-begun}
-use Rattle.engine.proofs.CopiedTableLaws.{same-found}
+use Rattle.engine.proofs.CopiedTableLaws.{blank, same-found}
 use Rattle.engine.proofs.FoundLaws.{begins-well}
 use Rattle.engine.proofs.search_on.Statement.{statement}
 use Rattle.engine.proofs.search_on.Tie as tie

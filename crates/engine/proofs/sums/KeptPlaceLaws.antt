@@ -8,7 +8,8 @@ use lib.Dec.{eqb, ltb}
 use lib.ListN.{length, getD, set, length-set}
 use lib.Seq.{getD-set-same, getD-set-other}
 use Rattle.model.proofs.Bools.{cases}
-use Rattle.engine.specs.Bounds.{mostClients, secondsFrom, addedFrom, lossFrom, moreFrom, keptLength}
+use Rattle.tables.specs.Bounds.{mostClients}
+use Rattle.engine.specs.Bounds.{secondsFrom, addedFrom, lossFrom, moreFrom, keptLength}
 use Rattle.engine.specs.Sums.{PutAt}
 use Rattle.engine.proofs.ClientSumLaws.{moreOf, lossOf, on-owner, on-other, more-fills}
 

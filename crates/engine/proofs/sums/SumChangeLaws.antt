@@ -12,7 +12,8 @@ use Rattle.model.proofs.Bools.{cases}
 use Rattle.model.proofs.SumLaws.{sum-change}
 use Rattle.rows.specs.Shifts.{wordEnd}
 use Rattle.rows.proofs.ExactLaws.{Shifted, ShiftedBoth}
-use Rattle.engine.specs.Bounds.{mostClients, mostEntry, noFacility, secondsFrom, addedFrom, lossFrom, moreFrom, keptLength}
+use Rattle.tables.specs.Bounds.{mostClients, mostEntry}
+use Rattle.engine.specs.Bounds.{noFacility, secondsFrom, addedFrom, lossFrom, moreFrom, keptLength}
 use Rattle.engine.specs.Rows.{entry}
 use Rattle.engine.specs.Sums.{firstAt, secondAt, addedSum, moreSum, lossSum, Kept, PutAt, Uncounted}
 use Rattle.engine.proofs.ClientSumLaws.{moreOf, lossOf, least-fills, one-more, one-loss, divided-cost, loss-small, loss-enough}

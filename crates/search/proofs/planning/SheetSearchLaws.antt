@@ -16,8 +16,8 @@ use Rattle.model.proofs.SetLaws.{member-some}
 use Rattle.model.proofs.LeastLaws.{any-counted}
 use Rattle.model.proofs.PlanLaws.{limited-start, same-start}
 use Rattle.questions.specs.Sheet.{instanceBy}
+use Rattle.tables.specs.Tables.{tabled, tableCost, goodTables}
 use Rattle.engine.specs.Bounds.{noLimit}
-use Rattle.engine.specs.Tables.{tabled, tableCost, goodTables}
 use Rattle.engine.specs.Moves.{neighboursBy}
 use Rattle.engine.specs.SearchOnTables.{goodStart, startSet, searching}
 use Rattle.engine.specs.declared.Start.{Start}

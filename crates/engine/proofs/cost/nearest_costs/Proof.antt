@@ -5,7 +5,7 @@ use native.Mathlib.Omega.{arith}
 use lib.ListN.{getD}
 use Rattle.model.specs.Loops.{sum}
 use Rattle.model.proofs.SumLaws.{sum-none, sum-more}
-use Rattle.engine.specs.Bounds.{mostEntry}
+use Rattle.tables.specs.Bounds.{mostEntry}
 use Rattle.engine.proofs.cost.nearest_costs.Statement.{statement}
 use Rattle.engine.proofs.cost.nearest_costs.Tie as tie
 

@@ -1,11 +1,11 @@
 -- `cost::openings_of` meets its contract. The invariant: the total is the sum of the opening costs passed, each within its bound.
+use Rattle.tables.specs.Bounds.{mostOpening}
 use Rattle.engine.proofs.MoveLaws.{widens8}
 use Rattle.engine.proofs.BestMoveLaws.{openings-none, openings-more}
 use Prim.Native.Nat.{_≤_, _-_, _*_}
 use native.Mathlib.Omega.{arith}
 use mathlib.Core.Path.{_≡_}
 use borrow.Author.Needs.{needs}
-use Rattle.engine.specs.Bounds.{mostOpening}
 use Rattle.engine.specs.Moves.{listedOpenings}
 use Rattle.engine.proofs.cost.openings_of.Statement.{statement}
 use Rattle.engine.proofs.cost.openings_of.Tie as tie

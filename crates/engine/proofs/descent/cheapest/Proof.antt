@@ -3,7 +3,7 @@ use Prim.Native.Nat.{_≤_, _-_}
 use native.Mathlib.Omega.{arith}
 use mathlib.Core.Path.{_≡_, refl}
 use borrow.Author.Needs.{needs}
-use Rattle.engine.specs.Tables.{tableCost}
+use Rattle.tables.specs.Tables.{tableCost}
 use Rattle.engine.proofs.DescentLaws.{Cheapest, cheapest-all}
 use Rattle.engine.proofs.descent.SingleFacilityLaws.{alone-fits, alone-first, alone-more}
 use Rattle.engine.proofs.descent.cheapest.Statement.{statement}

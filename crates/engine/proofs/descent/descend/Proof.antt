@@ -4,7 +4,7 @@ use mathlib.Core.Path.{_≡_, refl, _∙_}
 use native.Mathlib.Omega.{arith}
 use lib.ListN.{length}
 use Rattle.model.proofs.NeighbourLaws.{move-keeps}
-use Rattle.engine.specs.Tables.{tableCost}
+use Rattle.tables.specs.Tables.{tableCost}
 use Rattle.engine.specs.Sums.{KeptOf}
 use Rattle.engine.specs.Moves.{neighboursBy}
 use Rattle.engine.proofs.MovedLaws.{moved-is}

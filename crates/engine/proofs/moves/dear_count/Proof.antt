@@ -4,7 +4,7 @@ use native.Mathlib.Omega.{arith}
 use mathlib.Core.Path.{_≡_, refl}
 use Rattle.model.specs.Sets.{count}
 use Rattle.model.proofs.SumLaws.{sum-none}
-use Rattle.engine.proofs.LentTableLaws.{counts-on}
+use Rattle.tables.proofs.LentTableLaws.{counts-on}
 use Rattle.engine.specs.Rows.{dearAt}
 use Rattle.engine.proofs.BestMoveLaws.{lifted}
 use Rattle.engine.proofs.moves.dear_count.Statement.{statement}

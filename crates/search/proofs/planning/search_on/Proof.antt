@@ -1,7 +1,7 @@
 -- `planning::search_on` meets its contract: the engine takes the tables and the start, and settles.
 use native.Mathlib.Omega.{arith}
 use borrow.Author.Needs.{needs}
-use Rattle.engine.proofs.LentTableLaws.{good-when}
+use Rattle.tables.proofs.LentTableLaws.{good-when}
 use Rattle.search.proofs.planning.SheetSearchLaws.{settles, not-stopped, not-refused}
 use Rattle.search.proofs.planning.search_on.Statement.{statement}
 use Rattle.search.proofs.planning.search_on.Tie as tie
