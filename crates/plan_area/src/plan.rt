@@ -26,7 +26,7 @@ pub const KIND_TOTAL: u8 = 0x54;
 
 pub const KIND_MOVES: u8 = 0x4D;
 
-const WORD: u64 = 4294967296;
+const AMOUNT_END: u64 = 4294967296;
 
 // What the record of the total shows: the set's full cost, as far as four bytes hold it, as they do on every accepted sheet, or an amount that is
 // given.
@@ -87,7 +87,7 @@ fn amount_of(total: Total, cost: u64) -> u32
     ensures { λ r. ⌜ r ≡ totalAmount total cost ⌝ }
 {
     match total {
-        Total::FullCost => (cost % WORD) as u32,
+        Total::FullCost => (cost % AMOUNT_END) as u32,
         Total::Given(amount) => amount,
     }
 }
