@@ -3,7 +3,7 @@
 use Prim.Native.Nat.{ℕ, _+_, _*_, _≤_, _<_}
 use native.Mathlib.Nat.{mul-le-mul-right}
 use native.Mathlib.Omega.{arith}
-use mathlib.Core.Path.{_≡_, refl, sym, ap, subst, _∙_}
+use mathlib.Core.Path.{_≡_, sym, ap, subst, _∙_}
 use mathlib.Core.Bool.{true}
 use mathlib.Core.List.{List}
 use borrow.Author.Tests.{leb-true}
@@ -23,16 +23,16 @@ use Rattle.questions.specs.Bounds.{haulKind}
 use Rattle.questions.specs.Sheet.{yards, hauls, place, fee, haul, loadsByte, instanceBy}
 use Rattle.questions.specs.Questions.{amountWithin}
 use Rattle.questions.specs.Reading.{Counts, formAndLoads}
-use Rattle.questions.proofs.FormLaws.{yards-le, hauls-are}
+use Rattle.questions.proofs.FormLaws.{hauls-are}
 use Rattle.questions.proofs.AcceptedLaws.{HasForm, has-form}
 use Rattle.questions.proofs.ReadingLaws.{loaded}
 use Rattle.tariff.specs.declared.TariffChoice.the-variants.{HouseTariff, GivenTariff}
 use Rattle.tariff.specs.Bands.{Bands, haulBy, lastEnd}
-use Rattle.tariff.specs.House.{house}
+use Rattle.tariff.specs.House.{house, haulFromStart}
 use Rattle.tariff.specs.Reading.{tariffReading}
 use Rattle.tariff.proofs.BandLaws.{haul-charge}
 use Rattle.tariff.proofs.MakingLaws.{Allowed, hauls-fit, read-allowed}
-use Rattle.tariff.proofs.HouseLaws.{house-allowed}
+use Rattle.tariff.proofs.HouseLaws.{house-allowed, hauls-stay}
 use Rattle.distances.specs.Priced.{pricedRecord, pricedSheet, question13, pricedBy, underTariff, underGiven, sheetBy}
 use Rattle.distances.proofs.PricedLaws.{priced-haul, priced-other, keeps-byte3, priced-record-at}
 
@@ -123,6 +123,13 @@ priced-hauls b allowed s h bytes accepts =
 pub by-house : (tariff s h : List ℕ) → Bytes s → sheetBy HouseTariff tariff s ≡ accepted h → (c : Counts) × HaulsOf house s h (c .yards) (c .farms)
 unfolding sheetBy
 by-house tariff s h bytes accepts = priced-hauls house house-allowed s h bytes accepts
+
+-- and there each haul is the one from the table of band starts (document 02, paper 6)
+pub by-table : (tariff s h : List ℕ) → Bytes s → sheetBy HouseTariff tariff s ≡ accepted h
+    → (c : Counts) × ((a p : ℕ) → a < c .yards → p < c .farms → haul h (c .yards) a p ≡ haulFromStart (haul s (c .yards) a p))
+by-table tariff s h bytes accepts =
+    let read = by-house tariff s h bytes accepts in
+    (read .0, λ a p la lp. read .1 .hauls-charged a p la lp ∙ sym (hauls-stay (haul s (read .0 .yards) a p)))
 
 -- of a call by a given tariff
 pub by-given : (tariff s h : List ℕ) → Bytes tariff → Bytes s → sheetBy GivenTariff tariff s ≡ accepted h

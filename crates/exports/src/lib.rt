@@ -1,7 +1,7 @@
 // The calls of the planner for Rust and C, as `include/planner.h` declares them.
 //
-// Each hands its arguments on to `sheet`, `distances`, `price` or `search` and gives the answer as one number: bits 0 to 7 the refusal number,
-// 0 where the call is accepted, and above them what the call returns. A refused call gives its number alone. Every call is total.
+// Each hands its arguments on to `sheet`, `price` or `search` or, by a tariff, to `distances`, `price_by` or `by_tariff`, and gives the answer as one
+// number: bits 0 to 7 the refusal number, 0 where the call is accepted, and above them what the call returns. A refused call gives its number alone. Every call is total.
 //
 // A call whose name ends in `by` is told what the amounts of haul records are: `hauls` is 0 for hauls as written, 1 for distances by the house
 // tariff, and any other number for distances by the tariff that is handed over, whose bytes count only then.

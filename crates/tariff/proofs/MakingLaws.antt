@@ -1,7 +1,7 @@
 -- A tariff made of proper bands, one after the other, prices as they do: the line of a distance's band is the cost at its start and the rest at
 -- its rate.
 use Prim.Native.Nat.{ℕ, zero, suc, _+_, _-_, _*_, _≤_, _<_, min}
-use native.Mathlib.Nat.{le-refl, mul-le-mul, add-mul, not-suc-le-zero}
+use native.Mathlib.Nat.{le-refl, add-mul, not-suc-le-zero}
 use native.Mathlib.Omega.{arith}
 use mathlib.Core.Path.{_≡_, refl, sym, ap, ap₂, subst, _∙_}
 use mathlib.Core.Bool.{true}
@@ -24,7 +24,7 @@ use Rattle.tariff.specs.Questions.{question11, question12}
 use Rattle.tariff.specs.Reading.{bandsOf, tariffReading}
 use Rattle.tariff.proofs.BandLaws.{Proper}
 use Rattle.tariff.proofs.QuestionLaws.{accepted-proper, some-record, few-records, end-small, rate-small, passes}
-use Rattle.tariff.proofs.StartLaws.{is-band, starts-before, haul-within, start-cost, cost-most, haul-most}
+use Rattle.tariff.proofs.StartLaws.{is-band, starts-before, haul-within, start-cost, cost-most, haul-most, product-fits}
 
 -- bands that a tariff may have: 1 to 16 proper ones, of two-byte numbers
 pub record Allowed (b : Bands) : Type 0 where
@@ -67,12 +67,12 @@ module _ (b : Bands) (a : Allowed b) where
   -- what the bands up to one cost fits the four bytes of an amount
   pub cost-fits : (i : ℕ) → i ≤ b .count → costBefore (b .band) i < amountEnd
   cost-fits i l =
-      let most = cost-most (b .band) (b .count) (a .proper) 65535 i l (λ j k. omega (arith, a .rates-small j k)) in
-      omega (arith, most, mul-le-mul (end-most i l) (le-refl 65535))
+      let most = cost-most (b .band) (b .count) (a .proper) (halfWord - 1) i l (λ j k. omega (arith, a .rates-small j k)) in
+      omega (arith, most, product-fits (endOf (b .band) i) (halfWord - 1) (end-small i l) (omega arith))
     where
-      end-most : (i : ℕ) → i ≤ b .count → endOf (b .band) i ≤ 65535
-      end-most zero l = omega arith
-      end-most (suc i) l = omega (arith, a .ends-small i l)
+      end-small : (i : ℕ) → i ≤ b .count → endOf (b .band) i < halfWord
+      end-small zero l = omega arith
+      end-small (suc i) l = a .ends-small i l
 
   -- band i may be put behind those before it, with what they cost
   pub may-follow : (i : ℕ) (band : Band) (before : ℕ) → i < b .count → band ≡ b .band i → before ≡ costBefore (b .band) i

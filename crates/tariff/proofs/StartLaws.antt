@@ -1,7 +1,7 @@
 -- The haul of a distance from the cost at its band's start: the bands before are paid whole, those after it not at all. Which band that is, and
 -- what the bands cost at most.
 use Prim.Native.Nat.{ℕ, zero, suc, _+_, _-_, _*_, _≤_, _<_, min, zero-le}
-use native.Mathlib.Nat.{le-suc, le-trans, le-refl, eq-or-lt-of-le, le-of-suc-le-suc, not-suc-le-zero, mul-le-mul-left, mul-le-mul-right, add-mul}
+use native.Mathlib.Nat.{le-suc, le-trans, le-refl, eq-or-lt-of-le, le-of-suc-le-suc, not-suc-le-zero, mul-le-mul, mul-le-mul-left, mul-le-mul-right, add-mul}
 use native.Mathlib.Numerals.{add-one}
 use native.Mathlib.Omega.{arith}
 use native.Mathlib.Decide.{decLt}
@@ -15,7 +15,9 @@ use Rattle.model.specs.Sets.{count}
 use Rattle.model.proofs.CountLaws.{count-le, count-downward}
 use Rattle.model.proofs.LoopLaws.{last-or}
 use Rattle.model.proofs.SumLaws.{sum-mono}
+use Rattle.record.specs.Records.{amountEnd}
 use Rattle.tariff.specs.declared.bands.Band.{Band}
+use Rattle.tariff.specs.Bounds.{halfWord}
 use Rattle.tariff.specs.Bands.{Bands, inside, charge, haulBy, endOf, lastEnd, bandNumber, wholeCharge, costBefore}
 use Rattle.tariff.proofs.BandLaws.{Proper}
 
@@ -205,6 +207,15 @@ module _ (b : Bands) (some : 1 ≤ b .count) (p : Proper (b .count) (b .band)) (
       ends-there : (d ≤ b .band (bandNumber b d) .end) ⊎ (suc (bandNumber b d) ≡ b .count) → d ≤ b .band (bandNumber b d) .end
       ends-there (inl h) = h
       ends-there (inr e) = subst (λ (n : ℕ). d ≤ endOf (b .band) n) (sym e) within
+
+-- ---- how large that is
+
+-- two numbers of two bytes have a product that fits four
+pub product-fits : (x y : ℕ) → x < halfWord → y < halfWord → x * y < amountEnd
+product-fits x y h k = fits (le-of-suc-le-suc h) (le-of-suc-le-suc k)
+  where
+    fits : x ≤ halfWord - 1 → y ≤ halfWord - 1 → x * y < amountEnd
+    fits h k = let most : x * y ≤ (halfWord - 1) * (halfWord - 1) = mul-le-mul h k in omega arith
 
 -- a haul is at most what all bands cost
 pub haul-most : (b : Bands) (d : ℕ) → haulBy b d ≤ costBefore (b .band) (b .count)

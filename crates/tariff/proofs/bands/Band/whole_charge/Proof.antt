@@ -1,16 +1,12 @@
 -- `bands::Band::whole_charge` meets its contract: two numbers of two bytes have a product that fits four.
 use mathlib.Core.Path.{_≡_, refl}
-use Prim.Native.Nat.{ℕ, _-_, _*_, _≤_, _<_}
-use native.Mathlib.Nat.{mul-le-mul}
+use Prim.Native.Nat.{_-_}
 use native.Mathlib.Omega.{arith}
 use borrow.Author.Needs.{needs}
-use Rattle.record.specs.Records.{amountEnd}
 use Rattle.tariff.specs.Bands.{wholeCharge}
+use Rattle.tariff.proofs.StartLaws.{product-fits}
 use Rattle.tariff.proofs.bands.Band.whole_charge.Statement.{statement}
 use Rattle.tariff.proofs.bands.Band.whole_charge.Tie as tie
-
-product-fits : (x y : ℕ) → x ≤ 65535 → y ≤ 65535 → x * y < amountEnd
-product-fits x y h k = let most : x * y ≤ 65535 * 65535 = mul-le-mul h k in omega arith
 
 returns : tie.Need-returns
 unfolding wholeCharge
