@@ -1,16 +1,17 @@
 /*
- * The yard planner for C: reads haul sheets, prices sets of yards, makes open and limited plans, from hauls or from distances by a tariff
- * (document 01 with papers 1, 2 and 3 of document 02).
+ * The yard planner for C: reads haul sheets, prices sets of yards, tells what shutting a yard changes, makes open and limited plans, from
+ * hauls or from distances by a tariff (document 01 with papers 1, 2, 3 and 5 of document 02).
  *
  * Link target/staticlib/libexports.a, which `rt staticlib exports` proves and writes (x86-64; it needs memcpy and memset and nothing else).
  * What each call promises is its contract in crates/exports/src/lib.rt: its answer and the area after it for every input; that a priced
- * plan has the set given and a limited plan k yards; and for both plans that no move lowers the cost and that no rival is far
- * cheaper (an open plan costs at most three times a rival's set, the hauls of a limited plan are at most five times those of a rival
- * with as many yards or fewer; the rival carries the same loads and pays by the same tariff).
+ * plan has the set given and a limited plan k yards; that the change on shutting a yard is the full cost of the set without it less that
+ * of the set; and for both plans that no move lowers the cost and that no rival is far cheaper (an open plan costs at most three times a
+ * rival's set, the hauls of a limited plan are at most five times those of a rival with as many yards or fewer; the rival carries the
+ * same loads and pays by the same tariff).
  *
- * Every call ends, whatever the bytes of the sheet and of the tariff, the set, k and the lengths are, and either gives its whole result
- * or refuses by the number of the first question that is answered no. The caller sees to three things that no proof can: no
- * pointer is NULL (also where its length is 0), as many bytes as the length says can be read, and in an area written, and an area
+ * Every call ends, whatever the bytes of the sheet and of the tariff, the set, k, the farm, the yard and the lengths are, and either gives
+ * its whole result or refuses by the number of the first question that is answered no. The caller sees to three things that no proof
+ * can: no pointer is NULL (also where its length is 0), as many bytes as the length says can be read, and in an area written, and an area
  * overlaps no sheet and no tariff. A sheet and a tariff are only read. No call keeps a pointer, allocates memory, or has a state of its
  * own: several threads may call at once, each with its own area.
  *
@@ -56,7 +57,8 @@
  *      6     the four-point rule: haul(a, q) is at most haul(a, p) + haul(b, p) + haul(b, q), for all yards a, b and farms p, q; by a
  *            tariff it is about the priced hauls, which keep it where the distances do
  *      7     limited plan: k is from 1 to m
- *      8     pricing: the set marks at least one yard and none numbered m or above
+ *      8     pricing, second yards and a yard that shuts: the set marks at least one yard and none numbered m or above
+ *     14     a yard that shuts: the set marks it and another one
  *      9     pricing and plans: the area has at least 8 * (m + n + 2) bytes
  */
 #ifndef PLANNER_H
@@ -123,12 +125,39 @@ uint64_t planner_open_plan_by(const uint8_t *sheet, size_t sheet_len, uint8_t ha
 uint64_t planner_limited_plan_by(const uint8_t *sheet, size_t sheet_len, uint8_t hauls, const uint8_t *tariff, size_t tariff_len, size_t k,
                                  uint8_t *area, size_t area_len);
 
+/*
+ * What if this yard shuts? Both are handed a set as in planner_price and lent no area. `hauls` and `tariff` are those of the calls by a
+ * tariff; with PLANNER_HAULS hauls are as written. Both ask what planner_read_by asks, then 8.
+ */
+
+/*
+ * A farm's second cheapest yard of the set, ties as in a plan. Bit 8: whether there is one; bits 16 to 23: that yard; bits 32 to 63: the haul
+ * of one load there, by a tariff the priced one. There is none where the set has one yard, and for a farm n or above; the result is then 0.
+ */
+uint64_t planner_second(const uint8_t *sheet, size_t sheet_len, uint8_t hauls, const uint8_t *tariff, size_t tariff_len, uint32_t set,
+                        size_t farm);
+
+/*
+ * The change in full cost, fees and hauls, on shutting a yard of the set: that of the set without the yard less that of the set. Asks 14 last,
+ * of any number at all. Bit 8: whether the change is below zero, that is shutting saves money; bits 16 to 63: its size.
+ */
+uint64_t planner_shut(const uint8_t *sheet, size_t sheet_len, uint8_t hauls, const uint8_t *tariff, size_t tariff_len, uint32_t set,
+                      size_t yard);
+
 /* The parts of a result. */
 static inline unsigned planner_refusal(uint64_t result) { return (unsigned)(result & 0xFF); }
 static inline size_t planner_yards(uint64_t result) { return (size_t)(result >> 8 & 0xFF); }
 static inline size_t planner_farms(uint64_t result) { return (size_t)(result >> 16 & 0xFF); }
 static inline size_t planner_bytes(uint64_t result) { return (size_t)(result >> 8 & 0xFFFFFF); }
 static inline uint32_t planner_moves(uint64_t result) { return (uint32_t)(result >> 32); }
+static inline int planner_found(uint64_t result) { return (int)(result >> 8 & 1); }
+static inline size_t planner_second_yard(uint64_t result) { return (size_t)(result >> 16 & 0xFF); }
+static inline uint32_t planner_second_haul(uint64_t result) { return (uint32_t)(result >> 32); }
+static inline int64_t planner_change(uint64_t result)
+{
+    int64_t size = (int64_t)(result >> 16);
+    return (result >> 8 & 1) != 0 ? -size : size;
+}
 
 #ifdef __cplusplus
 }

@@ -1,6 +1,6 @@
 //! The implementations of document 01 side by side: the proved library, the second program, and the fast one. Every call comes
 //! without a tariff and by one (paper 3 of document 02).
-use crate::{fast, library, literal, Answer, Counts, Tariff, Written};
+use crate::{fast, library, literal, Answer, Counts, Second, Tariff, Written};
 
 /// The calls of one implementation.
 pub struct Calls {
@@ -76,6 +76,22 @@ pub const FAST_32: Calls = Calls {
 };
 
 pub const ALL: [Calls; 4] = [LIBRARY, LITERAL, FAST, FAST_32];
+
+/// A call on a sheet, by a tariff or by none, with a set of its yards and the number of a farm or a yard.
+pub type OnSet<T> = fn(&[u8], Tariff, u32, usize) -> Answer<T>;
+
+/// The calls of paper 5 of document 02, of one implementation. They are lent no area. The fast program does not have them.
+pub struct ShutCalls {
+    pub name: &'static str,
+    pub second_by: OnSet<Option<Second>>,
+    pub shut_by: OnSet<i64>,
+}
+
+pub const SHUT_LIBRARY: ShutCalls =
+    ShutCalls { name: "library", second_by: library::second_by, shut_by: library::shut_by };
+
+pub const SHUT_LITERAL: ShutCalls =
+    ShutCalls { name: "literal", second_by: literal::second_by, shut_by: literal::shut_by };
 
 /// A call that is lent an area for a plan.
 #[derive(Clone, Copy, Debug)]

@@ -1,5 +1,5 @@
-//! The yard planner for Rust (`library`), and what it is held against: the whole of document 01, with papers 1, 2 and 3 of
-//! document 02, a second time (`literal`), the same as fast as plain Rust makes it (`fast`), all side by side (`calls`),
+//! The yard planner for Rust (`library`), and what it is held against: the whole of document 01, with papers 1, 2, 3 and 5 of
+//! document 02, a second time (`literal`), all but paper 5 as fast as plain Rust makes it (`fast`), all side by side (`calls`),
 //! question 6 alone by its four loops (`four_loops`), and sheets of every kind (`samples`). `csv`, `words` and `bands`, a tariff as
 //! its bands, are the tool `sheet`. `format`, `table` and `random` serve the others: the format's constants, a sheet as a table,
 //! seeded numbers.
@@ -38,6 +38,13 @@ pub struct Counts {
 pub struct Written {
     pub bytes: usize,
     pub moves: u32,
+}
+
+/// A farm's second cheapest open yard (paper 5 of document 02), and the haul of one load there.
+#[derive(Clone, Copy, Debug, PartialEq, Eq)]
+pub struct Second {
+    pub yard: usize,
+    pub haul: u32,
 }
 
 /// The whole result of a call, or the number of the first question that is answered no.

@@ -5,7 +5,7 @@
 #[cfg(test)]
 mod tests;
 
-use crate::{Answer, Counts, Tariff, Written};
+use crate::{Answer, Counts, Second, Tariff, Written};
 
 /// Each takes a slice as its pointer and its length. A slice of Rust is what `planner.h` asks of the two, and an area lent as
 /// `&mut` overlaps no sheet: so every call below is sound.
@@ -60,6 +60,24 @@ mod raw {
             area: *mut u8,
             area_len: usize,
         ) -> u64;
+        pub fn planner_second(
+            sheet: *const u8,
+            sheet_len: usize,
+            hauls: u8,
+            tariff: *const u8,
+            tariff_len: usize,
+            set: u32,
+            farm: usize,
+        ) -> u64;
+        pub fn planner_shut(
+            sheet: *const u8,
+            sheet_len: usize,
+            hauls: u8,
+            tariff: *const u8,
+            tariff_len: usize,
+            set: u32,
+            yard: usize,
+        ) -> u64;
     }
 }
 
@@ -104,6 +122,17 @@ pub fn limited_plan(sheet: &[u8], k: usize, area: &mut [u8]) -> Answer<Written> 
     written(unsafe { raw::planner_limited_plan(sheet.as_ptr(), sheet.len(), k, area.as_mut_ptr(), area.len()) })
 }
 
+/// A farm's second cheapest yard of a set, ties as in a plan; none where the set has one yard, and for a farm n or above.
+pub fn second(sheet: &[u8], set: u32, farm: usize) -> Answer<Option<Second>> {
+    second_by(sheet, Tariff::None, set, farm)
+}
+
+/// The change in full cost on shutting a yard of the set, below zero where it saves money; 14 where the set does not mark the
+/// yard or marks no other.
+pub fn shut(sheet: &[u8], set: u32, yard: usize) -> Answer<i64> {
+    shut_by(sheet, Tariff::None, set, yard)
+}
+
 /// `read` on a sheet of distances by a tariff, which is asked 11 and 12 ahead of question 1; 13 comes just before 5.
 pub fn read_by(sheet: &[u8], tariff: Tariff) -> Answer<Counts> {
     let (hauls, tariff) = told(tariff);
@@ -134,6 +163,20 @@ pub fn limited_plan_by(sheet: &[u8], tariff: Tariff, k: usize, area: &mut [u8]) 
     written(unsafe { raw::planner_limited_plan_by(sheet, sheet_len, hauls, tariff, tariff_len, k, area, area_len) })
 }
 
+/// `second` on a sheet of distances by a tariff: the haul is the priced one.
+pub fn second_by(sheet: &[u8], tariff: Tariff, set: u32, farm: usize) -> Answer<Option<Second>> {
+    let (hauls, tariff) = told(tariff);
+    let (from, length, bands, bands_length) = (sheet.as_ptr(), sheet.len(), tariff.as_ptr(), tariff.len());
+    found(unsafe { raw::planner_second(from, length, hauls, bands, bands_length, set, farm) })
+}
+
+/// `shut` on a sheet of distances by a tariff.
+pub fn shut_by(sheet: &[u8], tariff: Tariff, set: u32, yard: usize) -> Answer<i64> {
+    let (hauls, tariff) = told(tariff);
+    let (from, length, bands, bands_length) = (sheet.as_ptr(), sheet.len(), tariff.as_ptr(), tariff.len());
+    change(unsafe { raw::planner_shut(from, length, hauls, bands, bands_length, set, yard) })
+}
+
 /// The number that tells a call what the amounts of haul records are, and the tariff's bytes, which count for a given one alone.
 fn told(tariff: Tariff<'_>) -> (u8, &[u8]) {
     match tariff {
@@ -161,4 +204,18 @@ fn counted(result: u64) -> Answer<Counts> {
 fn written(result: u64) -> Answer<Written> {
     accepted(result)?;
     Ok(Written { bytes: (result >> 8 & 0xFF_FFFF) as usize, moves: (result >> 32) as u32 })
+}
+
+/// Bit 8: whether there is a second yard; bits 16 to 23: that yard; bits 32 to 63: the haul there.
+fn found(result: u64) -> Answer<Option<Second>> {
+    accepted(result)?;
+    let second = Second { yard: (result >> 16 & 0xFF) as usize, haul: (result >> 32) as u32 };
+    Ok((result >> 8 & 1 == 1).then_some(second))
+}
+
+/// Bit 8: whether the change is below zero; bits 16 to 63: its size.
+fn change(result: u64) -> Answer<i64> {
+    accepted(result)?;
+    let size = (result >> 16) as i64;
+    Ok(if result >> 8 & 1 == 1 { -size } else { size })
 }

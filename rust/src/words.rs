@@ -1,7 +1,8 @@
-//! What the tool `sheet` says about a sheet: its table, a plan, or why the library refuses the call. `tariffs` is about a tariff
-//! by itself.
+//! What the tool `sheet` says about a sheet: its table, a plan, or why the library refuses the call. `shutting` is about what
+//! shutting a yard would change, `tariffs` about a tariff by itself.
 mod questions;
 pub mod refusal;
+pub mod shutting;
 mod tables;
 pub mod tariffs;
 

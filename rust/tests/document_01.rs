@@ -1,10 +1,10 @@
 //! The examples of document 01, section "Marked sheets and others", and its questions one by one, put to every implementation;
-//! the example of paper 1 of document 02, on equal hauls, and the numbers of its paper 2, on loads.
+//! the example of paper 1 of document 02, on equal hauls, the numbers of its paper 2, on loads, and paper 5 on the same sheets.
 mod checks;
 
 use checks::{
-    check_plan, check_read, check_refused, check_sheet_refused, even_sheet, plan, record, sheet, sheet_s,
-    with_farm_byte, with_loads, AMPLE, HAUL, HIGHEST_FEE, HIGHEST_HAUL, MOST_LOADS, YARD,
+    check_plan, check_read, check_refused, check_seconds, check_sheet_refused, check_shut, even_sheet, plan, record,
+    sheet, sheet_s, with_farm_byte, with_loads, AMPLE, HAUL, HIGHEST_FEE, HIGHEST_HAUL, MOST_LOADS, YARD,
 };
 use planner::calls::PlanCall as Call;
 
@@ -166,6 +166,35 @@ fn the_four_point_rule_with_loads() {
     for loads in [[0, 0], [1, 20], [20, 1], [20, 20], [2, 3]] {
         check_read(&with_loads(sheet(&[0, 0], &[[1, 1], [1, 3]]), &loads), 2, 2);
         check_sheet_refused(&with_loads(sheet(&[0, 0], &[[1, 1], [1, 4]]), &loads), 6);
+    }
+}
+
+/// All yards cost 10, {1, 2} 11, {0, 2} 10, {0, 1} 12, and one alone 16, 13 and 17. Farm 1 is as far from yard 0 as from yard 2.
+#[test]
+fn second_yards_and_shut_yards_of_s() {
+    let s = sheet_s();
+    check_seconds(&s, 0b111, &[(1, 3), (0, 5), (1, 5)]);
+    check_seconds(&s, 0b101, &[(2, 9), (2, 5), (0, 9)]);
+    check_seconds(&s, 0b010, &[]);
+    for (set, changes) in [(0b111, [1, 0, 2].map(Ok)), (0b110, [Err(14), Ok(6), Ok(2)]), (0b010, [Err(14); 3])] {
+        changes.into_iter().enumerate().for_each(|(yard, answer)| check_shut(&s, set, yard, answer));
+    }
+    for yard in [3, 32, 33, 255, 256, 1 << 32, usize::MAX] {
+        check_shut(&s, 0b111, yard, Err(14));
+        check_shut(&s, 0b1111, yard, Err(8));
+    }
+    check_shut(&s, 0, 0, Err(8));
+}
+
+/// The yards of paper 1: both cost 6 + 3, either alone its fee and 3. With a farm of 20 loads at yard 0 its haul counts twenty times.
+#[test]
+fn shutting_saves_where_the_fee_is_more_than_the_way() {
+    let equal = sheet(&[4, 2], &[[3, 3]]);
+    check_seconds(&equal, 0b11, &[(0, 3)]);
+    check_shut(&equal, 0b11, 0, Ok(-4));
+    check_shut(&equal, 0b11, 1, Ok(-2));
+    for (loads, change) in [(0, -4 + 1), (4, -4 + 4), (20, -4 + 20)] {
+        check_shut(&with_loads(sheet(&[4, 2], &[[3, 4]]), &[loads]), 0b11, 0, Ok(change));
     }
 }
 

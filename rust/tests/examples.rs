@@ -2,7 +2,7 @@
 //! tariff of the example of distances.
 use planner::format::{amount, FARM, MOST_AREA, MOVES, OPEN, RECORD, TOTAL};
 use planner::table::Table;
-use planner::words::{said, tariffs, Names, Request, ACCEPTED};
+use planner::words::{said, shutting, tariffs, Names, Request, ACCEPTED};
 use planner::{bands, csv, library, Tariff};
 use std::fs;
 use std::path::{Path, PathBuf};
@@ -246,6 +246,25 @@ fn the_tool_shows_loads_and_counts_them_in_every_sum() {
         let said = said(request, &sheet, Tariff::None, &names);
         assert!(said.status == ACCEPTED && said.text.contains(part), "{part}, in: {}", said.text);
     }
+}
+
+#[test]
+fn what_shutting_a_yard_would_change_is_what_the_tool_prints() {
+    let (_, names, sheet) = typed("loads");
+    let open_plan = shutting::said(None, &sheet, Tariff::None, &names);
+    assert_eq!((open_plan.status, open_plan.text), (ACCEPTED, text("loads-shut.txt")));
+    let all = shutting::said(Some(0b1111), &sheet, Tariff::None, &names);
+    let lines = "\
+   0  Mill Gate         60000      2     23  saves 47400         1
+   1  Old Harbour       90000      0      0  saves 90000
+   2  Station           45000      2     19  saves 1800          1, 3
+   3  South Dock        40000      2     13  costs 10400 more    2
+";
+    assert!(all.status == ACCEPTED && all.text.contains(lines), "{}", all.text);
+    let (_, names, sheet) = typed(DISTANCES);
+    let by_haulier = shutting::said(None, &sheet, Tariff::Given(&haulier()), &names);
+    let line = "   1  Haldensleben      400000      6     61  costs 13262 more    4, 9\n";
+    assert!(by_haulier.status == ACCEPTED && by_haulier.text.contains(line), "{}", by_haulier.text);
 }
 
 #[test]

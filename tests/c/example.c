@@ -1,5 +1,5 @@
 /* The planner from C: reads document 01's sheet S, prices {0, 2}, and makes both plans; open plans at the highest fee and haul and with
- * loads; and the same calls by the house tariff and by a given one. */
+ * loads; the same calls by the house tariff and by a given one; and second yards and yards that shut. */
 #include "planner.h"
 
 #include <stdio.h>
@@ -38,6 +38,9 @@ static const uint8_t tariff[16] = {0x42, 0, 0, 0, 200, 0, 10, 0, 0x42, 1, 200, 0
 /* the same up to 449 only, and with a rate of 11 cents in its second band */
 static const uint8_t shorter_tariff[16] = {0x42, 0, 0, 0, 200, 0, 10, 0, 0x42, 1, 200, 0, 193, 1, 1, 0};
 static const uint8_t rising_tariff[16] = {0x42, 0, 0, 0, 200, 0, 10, 0, 0x42, 1, 200, 0, 194, 1, 11, 0};
+
+/* {0, 1, 2} and {0, 1} */
+static const uint32_t three_yards = 1u << 0 | 1u << 1 | 1u << 2, two_yards = 1u << 0 | 1u << 1;
 
 static uint8_t area[PLANNER_MOST_AREA];
 
@@ -112,6 +115,48 @@ static void show_by_tariffs(void)
     show("open plan, a distance too far", planner_open_plan_by(distances, len, 255, shorter_tariff, sizeof shorter_tariff, area, sizeof area));
 }
 
+/* A yard and its haul are read off a result only where there is a second yard. */
+static void show_second(const char *call, uint64_t result)
+{
+    if (planner_refusal(result) != 0)
+        printf("%s: refused %u\n", call, planner_refusal(result));
+    else if (planner_found(result))
+        printf("%s: yard %zu, haul %u\n", call, planner_second_yard(result), (unsigned)planner_second_haul(result));
+    else
+        printf("%s: none\n", call);
+}
+
+static void show_change(const char *call, uint64_t result)
+{
+    if (planner_refusal(result) != 0)
+        printf("%s: refused %u\n", call, planner_refusal(result));
+    else
+        printf("%s: change %lld\n", call, (long long)planner_change(result));
+}
+
+/* Second yards, and what shutting a yard changes: of S, with loads, by the house tariff. */
+static void show_shut_yards(void)
+{
+    const size_t len = sizeof sheet;
+    const uint8_t hauls = PLANNER_HAULS, house = PLANNER_HOUSE_TARIFF;
+    show_second("second of farm 0 in {0, 1, 2}", planner_second(sheet, len, hauls, tariff, 0, three_yards, 0));
+    show_second("second of farm 1 in {0, 1, 2}", planner_second(sheet, len, hauls, tariff, 0, three_yards, 1));
+    show_second("second of farm 3 in {0, 1, 2}", planner_second(sheet, len, hauls, tariff, 0, three_yards, 3));
+    show_second("second of farm 2 in {1}", planner_second(sheet, len, hauls, tariff, 0, 1u << 1, 2));
+    show_second("second of farm 0 in {3}", planner_second(sheet, len, hauls, tariff, 0, 1u << 3, 0));
+    show_second("second of farm 0 by the house tariff", planner_second(distances, sizeof distances, house, tariff, 0, two_yards, 0));
+    show_change("shut 0 of {0, 1, 2}", planner_shut(sheet, len, hauls, tariff, 0, three_yards, 0));
+    show_change("shut 1 of {0, 1, 2}", planner_shut(sheet, len, hauls, tariff, 0, three_yards, 1));
+    show_change("shut 3 of {0, 1, 2}", planner_shut(sheet, len, hauls, tariff, 0, three_yards, 3));
+    show_change("shut 2 of {0, 1}", planner_shut(sheet, len, hauls, tariff, 0, two_yards, 2));
+    show_change("shut 2 of {2}", planner_shut(sheet, len, hauls, tariff, 0, 1u << 2, 2));
+    show_change("shut 0 of nothing", planner_shut(sheet, len, hauls, tariff, 0, 0, 0));
+    show_change("shut 1 of {0, 1}, ten loads", planner_shut(ten_loads, sizeof ten_loads, hauls, tariff, 0, two_yards, 1));
+    show_change("shut 0 of {0, 1}, ten loads", planner_shut(ten_loads, sizeof ten_loads, hauls, tariff, 0, two_yards, 0));
+    show_change("shut 0 of {0, 1} by the house tariff", planner_shut(distances, sizeof distances, house, tariff, 0, two_yards, 0));
+    show_change("shut 1 of {0, 1}, distances as hauls", planner_shut(distances, sizeof distances, hauls, tariff, 0, two_yards, 1));
+}
+
 int main(void)
 {
     show_counts("read", planner_read(sheet, sizeof sheet));
@@ -128,5 +173,6 @@ int main(void)
     show("open plan, ten loads", planner_open_plan(ten_loads, sizeof ten_loads, area, sizeof area));
     show_area_after_refusal();
     show_by_tariffs();
+    show_shut_yards();
     return 0;
 }

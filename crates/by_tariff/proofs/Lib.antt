@@ -1,3 +1,2 @@
--- PlanningByLaws: the plans by a tariff. MarkedCases: the marked cases of documents 01 and 02, of all calls on a sheet.
+-- PlanningByLaws: the plans by a tariff.
 pub mod PlanningByLaws
-pub mod MarkedCases

@@ -2,7 +2,7 @@
 use Prim.Native.Nat.{ℕ}
 use mathlib.Core.Path.{_≡_}
 use mathlib.Core.List.{List}
-use Rattle.model.specs.Answers.{Answer, accepted}
+use Rattle.model.specs.Answers.{accepted}
 use Rattle.model.proofs.AnswerLaws.{passed-first}
 use Rattle.questions.proofs.ReadingLaws.{reading-loads}
 use Rattle.tariff.specs.declared.TariffChoice.{TariffChoice}

@@ -1,21 +1,20 @@
 -- The sheet of hauls has the form and the loads of the sheet of distances: questions 1 to 4 and 10 read no amount.
-use Prim.Native.Nat.{ℕ, _+_, _-_, _*_, _/_, _%_, _≤_, _<_}
+use Prim.Native.Nat.{ℕ, _+_, _-_, _*_, _/_, _<_}
 use native.Mathlib.Nat.{mul-le-mul-right, div-mul-le-self}
 use native.Mathlib.Omega.{arith}
-use mathlib.Core.Path.{_≡_, refl, sym, ap, ap₂, _∙_}
+use mathlib.Core.Path.{_≡_, sym, ap, ap₂, _∙_}
 use mathlib.Core.Bool.{Bool, not, _&&_}
 use mathlib.Core.List.{List}
 use lib.Dec.{eqb, leb}
 use lib.ListN.{length}
 use Rattle.model.specs.Loops.{allBelow, leading}
-use Rattle.model.specs.Answers.{accepted, ask, after}
 use Rattle.model.proofs.LoopLaws.{all-cong, leading-cong}
 use Rattle.record.specs.declared.Record.{Record}
 use Rattle.record.specs.Records.{records, recordAt, amountEnd}
 use Rattle.questions.specs.Bounds.{yardKind, mostYards, mostFarms, mostLoads}
-use Rattle.questions.specs.Sheet.{isYard, yards, hauls, farms, place, loadsByte, farmByte}
+use Rattle.questions.specs.Sheet.{isYard, yards, hauls, farms, place, loadsByte}
 use Rattle.questions.specs.Questions.{question1, wellFormed, wellFormedAt, question2, numbered, noYardAfter, question3, haulInPlace, farmInPlace, question4, haulLoaded, farmLoaded, question10}
-use Rattle.questions.specs.Reading.{counts, form, formAndLoads}
+use Rattle.questions.specs.Reading.{form, formAndLoads}
 use Rattle.questions.proofs.FormLaws.{yards-le, hauls-are}
 use Rattle.distances.specs.Priced.{pricedRecord, pricedSheet}
 use Rattle.distances.proofs.PricedLaws.{keeps-kind, keeps-yard, keeps-farm, keeps-byte3, keeps-well-formed, sheet-length, priced-record-at}

@@ -5,13 +5,13 @@ use native.Mathlib.Decide.{decLt}
 use mathlib.Core.Path.{_≡_, refl, sym, ap, subst, _∙_}
 use mathlib.Core.Bool.{Bool, true, false}
 use mathlib.Core.List.{List}
-use borrow.Author.Tests.{eqb-true, eqb-false, eq-eqb, ne-eqb, leb-true, leb-false, le-leb, lt-leb}
+use borrow.Author.Tests.{eqb-true, eq-eqb, ne-eqb, leb-true, leb-false}
 use lib.Dec.{eqb, leb}
 use lib.ListN.{length, take, drop}
 use lib.Seq.{take-at}
 use Rattle.model.specs.Loops.{allBelow}
 use Rattle.model.specs.Answers.{Answer, accepted, refused, ask, after}
-use Rattle.model.proofs.Bools.{cases, clash, fails}
+use Rattle.model.proofs.Bools.{cases, fails}
 use Rattle.model.proofs.LoopLaws.{all-at, all-from, all-fails, all-stops, leading-holds}
 use Rattle.record.specs.declared.Record.{Record}
 use Rattle.record.specs.Records.{records, recordAt, splice, amountEnd}
@@ -31,7 +31,7 @@ use Rattle.tariff.specs.Pricing.{priceOf, PricesAs}
 use Rattle.distances.specs.Priced.{pricedRecord, pricedSheet, question13, pricedBy, underTariff}
 use Rattle.distances.specs.Lent.{formed as formedSheet}
 use Rattle.distances.specs.Blocks.{distanceOf, withinReach}
-use Rattle.distances.proofs.PricedLaws.{priced-haul, priced-other, sheet-length, same-sheet}
+use Rattle.distances.proofs.PricedLaws.{sheet-length, same-sheet}
 use Rattle.distances.proofs.FormKept.{form-kept}
 
 -- ---- one record

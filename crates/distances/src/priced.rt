@@ -5,7 +5,7 @@
 // come before 13.
 ghost use mathlib.Core.Path.{_≡_};
 ghost use mathlib.Core.Bool.{true};
-ghost use Prim.Native.Nat.{ℕ, _*_, _%_, _≤_, _<_, min};
+ghost use Prim.Native.Nat.{ℕ, _%_, _≤_, _<_, min};
 ghost use lib.ListN.{length};
 ghost use Rattle.model.specs.Loops.{allBelow, join};
 ghost use Rattle.record.specs.Records.{records, splice, amountEnd};

@@ -1,17 +1,14 @@
 -- The numbers of the calls by a tariff: they say what the call answered, and what is promised by them holds on the sheet of hauls.
-use Prim.Native.Nat.{ℕ, _≤_}
-use native.Mathlib.Omega.{arith}
-use mathlib.Core.Path.{_≡_, refl, subst}
+use Prim.Native.Nat.{ℕ}
+use mathlib.Core.Path.{_≡_}
 use mathlib.Core.List.{List}
 use lib.ListN.{length}
-use Rattle.model.specs.Answers.{Answer, accepted, refused, after}
+use Rattle.model.specs.Answers.{Answer, accepted, after}
 use Rattle.model.specs.Plans.{openStart, openSearch, limitedStart, limitedSearch}
 use Rattle.questions.specs.Sheet.{instanceOf}
-use Rattle.questions.specs.Reading.{counts, reading}
-use Rattle.questions.proofs.AcceptedLaws.{accepts}
+use Rattle.questions.specs.Reading.{reading}
 use Rattle.tariff.specs.declared.TariffChoice.{TariffChoice}
 use Rattle.distances.specs.Priced.{sheetBy, readingBy, OnHauls}
-use Rattle.distances.proofs.CallLaws.{sheet-numbered, read-on-hauls}
 use Rattle.price.specs.Pricing.{Plan, plannedAnswer, answer, areaAfter, OfPlan, pricing}
 use Rattle.price_by.specs.PricingBy.{pricingBy}
 use Rattle.price.specs.declared.Planned.{Planned}
@@ -21,27 +18,20 @@ use Rattle.search.specs.Planning.{openPlanning, limitedPlanning}
 use Rattle.by_tariff.specs.PlanningBy.{openPlanningBy, limitedPlanningBy}
 use Rattle.search.proofs.PromiseLaws.{open-plan-of, limited-plan-of}
 use Rattle.by_tariff.proofs.PlanningByLaws.{open-on-hauls, limited-on-hauls}
-use Rattle.exports.specs.Numbers.{countsNumber, resultNumber, refusal, yardsRead, farmsRead, OfWritten, KeepsBits, CountsKeepBits}
-use Rattle.exports.proofs.NumberLaws.{Said, said, counts-within, pricing-within, open-within, limited-within, of-written, written-of}
+use Rattle.numbers.specs.Numbers.{resultNumber, OfWritten, KeepsBits, CountsKeepBits}
+use Rattle.numbers.proofs.SaidLaws.{Said, said, CountsSaid, counts-said, of-written, written-of}
+use Rattle.exports.proofs.BitLaws.{by-within}
+use Rattle.exports.proofs.NumberLaws.{PlanKeepsBits, plan-numbered, counts-within, pricing-within, open-within, limited-within}
 
 module _ (choice : TariffChoice) (tariff s : List ℕ) where
   -- ---- the answers keep to their bits
 
   pub counts-by-within : CountsKeepBits (readingBy choice tariff s)
   unfolding readingBy
-  counts-by-within = go (sheetBy choice tariff s) refl
-    where
-      go : (a : Answer (List ℕ)) → sheetBy choice tariff s ≡ a → CountsKeepBits (after a reading)
-      go (accepted h) e = counts-within h
-      go (refused k) e = let l = sheet-numbered choice tariff s k e in (l .0, omega (arith, l .1))
+  counts-by-within = by-within CountsKeepBits (λ k some few. (some, few)) choice tariff s reading counts-within
 
-  plan-by-within : (call : List ℕ → Answer Plan) → ((h : List ℕ) → KeepsBits (answer (call h))) → KeepsBits (answer (after (sheetBy choice tariff s) call))
-  unfolding answer
-  plan-by-within call within = go (sheetBy choice tariff s) refl
-    where
-      go : (a : Answer (List ℕ)) → sheetBy choice tariff s ≡ a → KeepsBits (answer (after a call))
-      go (accepted h) e = within h
-      go (refused k) e = let l = sheet-numbered choice tariff s k e in (l .0, omega (arith, l .1))
+  plan-by-within : (call : List ℕ → Answer Plan) → ((h : List ℕ) → PlanKeepsBits (call h)) → PlanKeepsBits (after (sheetBy choice tariff s) call)
+  plan-by-within = by-within PlanKeepsBits plan-numbered choice tariff s
 
   module _ (room : ℕ) where
     pub pricing-by-within : (set : ℕ) → KeepsBits (answer (pricingBy choice tariff s set room))
@@ -67,18 +57,8 @@ module _ (choice : TariffChoice) (tariff s : List ℕ) where
     pub limited-by-said : (k : ℕ) → Said (answer (limitedPlanningBy choice tariff s k room))
     limited-by-said k = said (answer (limitedPlanningBy choice tariff s k room)) (limited-by-within k)
 
-  -- the counts are those of the sheet of hauls, or the number is the refusal's
-  pub counts-by-said : (m n : ℕ) → readingBy choice tariff s ≡ accepted (counts m n) → (refusal (countsNumber (readingBy choice tariff s)) ≡ 0)
-      × (yardsRead (countsNumber (readingBy choice tariff s)) ≡ m) × (farmsRead (countsNumber (readingBy choice tariff s)) ≡ n)
-  unfolding refusal yardsRead farmsRead
-  counts-by-said m n e =
-      let r = read-on-hauls choice tariff s (counts m n) e in
-      let f = accepts (r .0) m n (r .2) .has in
-      rw e (omega arith, omega (arith, f .few-yards), omega (arith, f .few-yards, f .few-farms))
-
-  pub refusal-by-said : (k : ℕ) → readingBy choice tariff s ≡ refused k → (refusal (countsNumber (readingBy choice tariff s)) ≡ k) × (1 ≤ k)
-  unfolding refusal
-  refusal-by-said k e = let l = subst CountsKeepBits e counts-by-within in (rw e (omega (arith, l .1)), l .0)
+  pub reading-by-said : CountsSaid (readingBy choice tariff s)
+  reading-by-said = counts-said (readingBy choice tariff s) counts-by-within
 
   -- ---- what is promised of a plan is promised of the bytes that the number tells
 

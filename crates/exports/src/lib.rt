@@ -1,31 +1,23 @@
 // The calls of the planner for Rust and C, as `include/planner.h` declares them.
 //
-// Each hands its arguments on to `sheet`, `price` or `search` or, by a tariff, to `distances`, `price_by` or `by_tariff`, and gives the answer as one
-// number: bits 0 to 7 the refusal number, 0 where the call is accepted, and above them what the call returns. A refused call gives its number alone. Every call is total.
+// Each hands its arguments on to `sheet`, `price` or `search` or, by a tariff, to `distances`, `price_by`, `shut_by` or `by_tariff`, and gives the answer as
+// one number by `numbers`: bits 0 to 7 the refusal number, 0 where the call is accepted, and above them what the call returns. A refused call gives its
+// number alone. Every call is total.
 //
-// A call whose name ends in `by` is told what the amounts of haul records are: `hauls` is 0 for hauls as written, 1 for distances by the house
+// A call whose name ends in `by`, `second` or `shut` is told what the amounts of haul records are: `hauls` is 0 for hauls as written, 1 for distances by the house
 // tariff, and any other number for distances by the tariff that is handed over, whose bytes count only then.
 ghost use mathlib.Core.Path.{_≡_};
 ghost use lib.ListN.{length, getD};
-ghost use Rattle.questions.specs.Reading.{readingAnswer, reading};
+ghost use Rattle.questions.specs.Reading.{reading};
 ghost use Rattle.sheet.specs.Stretch.{farmHauls, farmFrom, HaulsFrom};
 ghost use Rattle.distances.specs.Priced.{sheetBy, readingBy, OnHauls};
-ghost use Rattle.price.specs.Pricing.{plannedAnswer, answer, areaAfter, pricing};
+ghost use Rattle.price.specs.Pricing.{answer, areaAfter, pricing};
 ghost use Rattle.price_by.specs.PricingBy.{pricingBy};
+ghost use Rattle.shut_by.specs.ShuttingBy.{secondingBy, shuttingBy};
 ghost use Rattle.search.specs.Planning.{openPlanning, limitedPlanning};
 ghost use Rattle.by_tariff.specs.PlanningBy.{openPlanningBy, limitedPlanningBy};
 ghost use Rattle.search.specs.Promises.{NoOpenMove, BoundedByRivals, OfSize, NoLimitedMove, BoundedByRivalsOf};
-ghost use Rattle.exports.specs.Numbers.{countsNumber, resultNumber, choiceOf, KeepsBits, CountsKeepBits, OfWritten};
-use price::Planned;
-use sheet::Reading;
-use tariff::TariffChoice;
-
-// What the parts of a number count for that begin at bit 8, at bit 16 and at bit 32.
-const BIT_8: u64 = 256;
-
-const BIT_16: u64 = 65536;
-
-const BIT_32: u64 = 4294967296;
+ghost use Rattle.numbers.specs.Numbers.{countsNumber, resultNumber, secondNumber, changeNumber, choiceOf, OfWritten, DifferenceTold};
 
 // Asks questions 1 to 4, 10, 5 and 6. Bits 8 to 15: the yards; bits 16 to 23: the farms.
 #[no_mangle]
@@ -33,7 +25,7 @@ pub extern "C" fn planner_read(sheet: &[u8]) -> u64
     ensures { λ r. ⌜ r ≡ countsNumber (reading (now (sheet .entry))) ⌝ }
 {
     let reading = sheet::read(sheet);
-    counts_number(reading)
+    numbers::counts_number(reading)
 }
 
 // The length of a farm's stretch of the sheet.
@@ -73,7 +65,7 @@ pub extern "C" fn planner_price(sheet: &[u8], set: u32, area: &mut [u8]) -> u64
     ensures kept { λ r. ⌜ OfWritten r (now (area .exit)) (λ kept. kept ≡ set) ⌝ }
 {
     let priced = price::price(sheet, set, area);
-    number(priced)
+    numbers::plan_number(priced)
 }
 
 // Writes the open plan to the front of the area; the number as for pricing.
@@ -85,7 +77,7 @@ pub extern "C" fn planner_open_plan(sheet: &[u8], area: &mut [u8]) -> u64
     ensures bounded { λ r. ⌜ OfWritten r (now (area .exit)) (BoundedByRivals (now (sheet .entry))) ⌝ }
 {
     let open_plan = search::open_plan(sheet, area);
-    number(open_plan)
+    numbers::plan_number(open_plan)
 }
 
 // Writes the limited plan for k yards to the front of the area; the number as for pricing.
@@ -98,7 +90,7 @@ pub extern "C" fn planner_limited_plan(sheet: &[u8], k: usize, area: &mut [u8]) 
     ensures bounded { λ r. ⌜ OfWritten r (now (area .exit)) (BoundedByRivalsOf (now (sheet .entry)) k) ⌝ }
 {
     let limited_plan = search::limited_plan(sheet, k, area);
-    number(limited_plan)
+    numbers::plan_number(limited_plan)
 }
 
 // Reading by a tariff; the number as for `planner_read`.
@@ -106,8 +98,8 @@ pub extern "C" fn planner_limited_plan(sheet: &[u8], k: usize, area: &mut [u8]) 
 pub extern "C" fn planner_read_by(sheet: &[u8], hauls: u8, tariff: &[u8]) -> u64
     ensures { λ r. ⌜ r ≡ countsNumber (readingBy (choiceOf hauls) (now (tariff .entry)) (now (sheet .entry))) ⌝ }
 {
-    let reading = distances::read_by(sheet, choice_of(hauls), tariff);
-    counts_number(reading)
+    let reading = distances::read_by(sheet, numbers::choice_of(hauls), tariff);
+    numbers::counts_number(reading)
 }
 
 // Pricing by a tariff; the number as for `planner_price`.
@@ -123,8 +115,8 @@ pub extern "C" fn planner_price_by(
     ensures area { λ r. ⌜ now (area .exit) ≡ areaAfter (pricingBy (choiceOf hauls) (now (tariff .entry)) (now (sheet .entry)) set (length (now (area .entry)))) (now (area .entry)) ⌝ }
     ensures kept { λ r. ⌜ OfWritten r (now (area .exit)) (λ kept. kept ≡ set) ⌝ }
 {
-    let priced = price_by::price_by(sheet, choice_of(hauls), tariff, set, area);
-    number(priced)
+    let priced = price_by::price_by(sheet, numbers::choice_of(hauls), tariff, set, area);
+    numbers::plan_number(priced)
 }
 
 // The open plan by a tariff; the number as for pricing. What is promised is promised of the sheet of hauls.
@@ -140,8 +132,8 @@ pub extern "C" fn planner_open_plan_by(
     ensures settled { λ r. ⌜ OnHauls (sheetBy (choiceOf hauls) (now (tariff .entry)) (now (sheet .entry))) (λ h. OfWritten r (now (area .exit)) (NoOpenMove h)) ⌝ }
     ensures bounded { λ r. ⌜ OnHauls (sheetBy (choiceOf hauls) (now (tariff .entry)) (now (sheet .entry))) (λ h. OfWritten r (now (area .exit)) (BoundedByRivals h)) ⌝ }
 {
-    let open_plan = by_tariff::open_plan_by(sheet, choice_of(hauls), tariff, area);
-    number(open_plan)
+    let open_plan = by_tariff::open_plan_by(sheet, numbers::choice_of(hauls), tariff, area);
+    numbers::plan_number(open_plan)
 }
 
 // The limited plan by a tariff; the number as for pricing. What is promised is promised of the sheet of hauls.
@@ -159,39 +151,38 @@ pub extern "C" fn planner_limited_plan_by(
     ensures settled { λ r. ⌜ OnHauls (sheetBy (choiceOf hauls) (now (tariff .entry)) (now (sheet .entry))) (λ h. OfWritten r (now (area .exit)) (NoLimitedMove h)) ⌝ }
     ensures bounded { λ r. ⌜ OnHauls (sheetBy (choiceOf hauls) (now (tariff .entry)) (now (sheet .entry))) (λ h. OfWritten r (now (area .exit)) (BoundedByRivalsOf h k)) ⌝ }
 {
-    let limited_plan = by_tariff::limited_plan_by(sheet, choice_of(hauls), tariff, k, area);
-    number(limited_plan)
+    let limited_plan = by_tariff::limited_plan_by(
+        sheet,
+        numbers::choice_of(hauls),
+        tariff,
+        k,
+        area,
+    );
+    numbers::plan_number(limited_plan)
 }
 
-// What the amounts of haul records are, by its number.
-fn choice_of(hauls: u8) -> TariffChoice
-    ensures { λ r. ⌜ r ≡ choiceOf hauls ⌝ }
+// A farm's second open yard. Bit 8: whether there is one; bits 16 to 23: that yard; bits 32 to 63: the haul of one load there.
+#[no_mangle]
+pub extern "C" fn planner_second(
+    sheet: &[u8],
+    hauls: u8,
+    tariff: &[u8],
+    set: u32,
+    farm: usize,
+) -> u64
+    ensures { λ r. ⌜ r ≡ secondNumber (secondingBy (choiceOf hauls) (now (tariff .entry)) (now (sheet .entry)) set farm) ⌝ }
 {
-    match hauls {
-        0 => TariffChoice::NoTariff,
-        1 => TariffChoice::HouseTariff,
-        _ => TariffChoice::GivenTariff,
-    }
+    let second = shut_by::second_by(sheet, numbers::choice_of(hauls), tariff, set, farm);
+    numbers::second_number(second)
 }
 
-// What reading answers, as a number.
-fn counts_number(reading: Reading) -> u64
-    requires { ⌜ CountsKeepBits (readingAnswer reading) ⌝ }
-    ensures { λ r. ⌜ r ≡ countsNumber (readingAnswer reading) ⌝ }
+// What shutting a yard of the set changes. Bit 8: whether it is below zero; bits 16 to 63: its size. The difference is that of full costs on the sheet of
+// hauls.
+#[no_mangle]
+pub extern "C" fn planner_shut(sheet: &[u8], hauls: u8, tariff: &[u8], set: u32, yard: usize) -> u64
+    ensures answer { λ r. ⌜ r ≡ changeNumber (shuttingBy (choiceOf hauls) (now (tariff .entry)) (now (sheet .entry)) set yard) ⌝ }
+    ensures difference { λ r. ⌜ OnHauls (sheetBy (choiceOf hauls) (now (tariff .entry)) (now (sheet .entry))) (λ h. DifferenceTold h set yard r) ⌝ }
 {
-    match reading {
-        Reading::Accepted { yards, farms } => (yards as u64) * BIT_8 + (farms as u64) * BIT_16,
-        Reading::Refused(number) => number as u64,
-    }
-}
-
-// The answer of a call that writes a plan, as a number.
-fn number(planned: Planned) -> u64
-    requires { ⌜ KeepsBits (plannedAnswer planned) ⌝ }
-    ensures { λ r. ⌜ r ≡ resultNumber (plannedAnswer planned) ⌝ }
-{
-    match planned {
-        Planned::Written { bytes, moves } => (bytes as u64) * BIT_8 + (moves as u64) * BIT_32,
-        Planned::Refused(refusal) => refusal as u64,
-    }
+    let change = shut_by::shut_by(sheet, numbers::choice_of(hauls), tariff, set, yard);
+    numbers::change_number(change)
 }

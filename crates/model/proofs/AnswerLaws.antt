@@ -1,7 +1,7 @@
 -- Laws of answers: what an accepted chain of questions says of each of them.
 use Prim.Native.Nat.{ℕ}
 use native.Mathlib.Omega.{arith}
-use mathlib.Core.Path.{_≡_, refl, sym, ap, _∙_}
+use mathlib.Core.Path.{_≡_, refl, sym}
 use mathlib.Core.Bool.{Bool, true, false}
 use Rattle.model.specs.Answers.{Answer, accepted, refused, ask, after}
 

@@ -173,6 +173,11 @@ module _ (I : Instance) where
     unfolding nearest
     nearest-cong j = least-cong m S T (λ i. service i j) agree
 
+    pub assigned-cong : (j : ℕ) → assigned I S j ≡ assigned I T j
+    unfolding assigned atNearest
+    assigned-cong j =
+        arg-cong m (atNearest I S j) (atNearest I T j) opening (λ i l. ap₂ (λ (b : Bool) (x : ℕ). b && eqb (service i j) x) (agree i l) (nearest-cong j))
+
     pub opening-cong : openingCost I S ≡ openingCost I T
     unfolding openingCost
     opening-cong = sum-cong m (λ i l. ap (λ b. on b (opening i)) (agree i l))

@@ -4,10 +4,12 @@ use mathlib.Core.Path.{_≡_, refl}
 use mathlib.Core.Bool.{true, false, cond}
 use mathlib.Core.List.{[], _∷_, _++_}
 use lib.Dec.{eqb}
+use lib.IntN.{pos, negsuc}
 use Rattle.model.specs.Loops.{allBelow, sum, join}
 use Rattle.model.specs.Least.{any, least, arg}
 use Rattle.model.specs.Sets.{member, with, without}
 use Rattle.model.specs.Instance.{Instance, metric, fourPointBPQ, fourPointPQ, fourPointQ, fourPoint, nearest, atNearest, assigned, openingCost, serviceCost, totalCost}
+use Rattle.model.specs.Closing.{second, secondCost, costAt, costElsewhere, closingChange}
 use Rattle.model.specs.QuickMetric.{greatest, route, spread, quickPair, quickMetric}
 use Rattle.model.specs.Neighbours.{addAt, adds, dropAt, drops, swapAt, swapsOut, swaps, addDropSwap}
 use Rattle.model.specs.Search.{reached, better, best, next, descend, search}
@@ -94,6 +96,18 @@ loaded = record { facilities = 3; clients = 3; opening = row 1 4 2; service = ta
 example-loads : (serviceCost loaded (member 2) ≡ 22) × (totalCost loaded (member 2) ≡ 26) × (metric loaded ≡ true)
 unfolding loaded totalCost openingCost serviceCost nearest member least any sum metric fourPointBPQ fourPointPQ fourPointQ fourPoint allBelow
 example-loads = (refl, refl, refl)
+
+-- Document 02, paper 5. Of yards 0, 1 and 2 of S, farm 1's second is yard 0 at 5, as near as yard 2 and cheaper.
+example-second : (second example (member 7) 1 ≡ 0) × (secondCost example (member 7) 1 ≡ 5)
+unfolding example second secondCost assigned atNearest nearest member least arg any
+example-second = (refl, refl)
+
+-- There shutting yard 0 costs 1 more and shutting yard 1 changes nothing. Of the two yards of fees 4 and 2 to which the farm is as near, shutting yard 0
+-- saves 4. Of yards 0 and 1 with 2, 1 and 3 loads, shutting yard 1 saves its fee 4, and farms 1 and 2 cost 1 * 4 and 3 * 4 more.
+example-closing : (closingChange example (member 7) 0 ≡ pos 1) × (closingChange example (member 7) 1 ≡ pos 0)
+    × (closingChange (two-fees 4 2 3 3) (member 3) 0 ≡ negsuc 3) × (closingChange loaded (member 3) 1 ≡ pos 12)
+unfolding example two-fees loaded closingChange costAt costElsewhere secondCost assigned atNearest nearest member least arg any sum
+example-closing = (refl, refl, refl, refl)
 
 -- From {1, 2} of four: the adds of 0 and 3, the drops of 1 and 2, then the swaps by the number going out and by the number coming in: 0 and
 -- 3 for 1, 0 and 3 for 2.

@@ -11,7 +11,7 @@ use Rattle.model.specs.Least.{any, least, arg}
 use Rattle.model.specs.Sets.{count}
 use Rattle.model.proofs.Bools.{cases, clash, fails, and-left, and-right, and-both, or-left, or-right, eqb-self, cond-le, Lt?, less, more, test<}
 use Rattle.model.proofs.LoopLaws.{last-or, up-to}
-use Rattle.model.proofs.CountLaws.{count-find}
+use Rattle.model.proofs.CountLaws.{count-find, count-some}
 
 -- ---- some member
 
@@ -92,6 +92,10 @@ pub arg-least : (m : ℕ) (S : ℕ → Bool) (v : ℕ → ℕ) → any m S ≡ t
 unfolding any arg
 arg-least zero S v e = absurd (true≢false (sym e))
 arg-least (suc i) S v e = step i (arg i S v) S v (S i) refl (any i S) refl _ (test< (v i) (v (arg i S v))) (arg-least i S v) e
+
+-- a set that is not empty has one or more
+pub counted-any : (m : ℕ) (S : ℕ → Bool) → any m S ≡ true → 1 ≤ count m S
+counted-any m S e = let r = arg-least m S (λ i. 0) e in count-some m (arg m S (λ i. 0)) S (r .below) (r .is-in)
 
 pub arg-cong : (m : ℕ) (S T : ℕ → Bool) (v : ℕ → ℕ) → ((i : ℕ) → i < m → S i ≡ T i) → arg m S v ≡ arg m T v
 unfolding arg

@@ -15,6 +15,7 @@ pub mod PackedLaws
 pub mod CostLaws
 pub mod QuickMetricLaws
 pub mod ChargeLaws
+pub mod ClosingLaws
 pub mod NearestChangeLaws
 pub mod SetLaws
 pub mod NeighbourLaws

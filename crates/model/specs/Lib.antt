@@ -1,7 +1,7 @@
 -- Loops: what loops compute. Least: least members. Sets: sets of numbers. Instance: the problem and its costs.
 -- Neighbours: the moves of a search. Search: the search itself. Limit: the search with a limit on moves. Plans: the two searches of document 01.
 -- TwoLeast: the two least values over a set. Passing: what a loop makes of a value. QuickMetric: a quicker test of metric service costs. Charges:
--- service costs that are worked out from distances. Answers: a refusal number or a result.
+-- service costs that are worked out from distances. Closing: what closing a facility changes. Answers: a refusal number or a result.
 pub mod Loops
 pub mod Passing
 pub mod Least
@@ -14,4 +14,5 @@ pub mod Limit
 pub mod Plans
 pub mod QuickMetric
 pub mod Charges
+pub mod Closing
 pub mod Answers

@@ -23,11 +23,11 @@ use Rattle.sheet.specs.Stretch.{stretch}
 use Rattle.record.proofs.RecordLaws.{whole}
 use Rattle.sheet.proofs.FarmLaws.{stretch-length, stretch-record}
 use Rattle.record.proofs.SpliceLaws.{length-bytes, splice-turn}
-use Rattle.plan_area.specs.declared.nearest.Nearest.{Nearest}
+use Rattle.nearest.specs.declared.Nearest.{Nearest}
 use Rattle.plan_area.specs.declared.plan.Total.{Total}
-use Rattle.plan_area.specs.Nearest.{nearestOn}
+use Rattle.nearest.specs.Nearest.{nearestOn}
 use Rattle.plan_area.specs.Plan.{openRecord, farmRecord, totalRecord, movesRecord, planBytes, totalAmount, question9, planFits, writing, openKind, farmKind, totalKind, movesKind}
-use Rattle.plan_area.proofs.NearestLaws.{farm-haul, farm-yard, farm-yard-small}
+use Rattle.plan_area.proofs.FarmNearestLaws.{farm-haul, farm-yard, farm-yard-small}
 
 -- ---- the parts
 
@@ -96,9 +96,9 @@ module _ (s : List ℕ) (m n set : ℕ) where
   unfolding farmRecord
   farm-on shape p l hauls r part e =
       rw (e, part) (
-        farm-haul s m n p shape l set,
-        rw (farm-yard s m n p shape l set, farm-haul s m n p shape l set),
-        farm-yard-small s m n p shape l set,
+        farm-haul s m n p shape l (member set),
+        rw (farm-yard s m n p shape l (member set), farm-haul s m n p shape l (member set)),
+        farm-yard-small s m n p shape l (member set),
       )
 
   -- what a farm's loads cost, and its record, by what is read off the stretch: the nearest yard on it, and its first record

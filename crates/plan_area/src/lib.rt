@@ -1,11 +1,8 @@
-// The plan area: a farm's nearest open yard, and the records of a plan in an area that the caller lends.
+// The plan area: the records of a plan in an area that the caller lends.
 //
 // `write_plan`, with `plan_fits`, writes the plan of any set for callers that have read the sheet. Every call is total.
-mod nearest;
 mod plan;
 
-pub use nearest::Nearest;
-pub use nearest::nearest_yard;
 pub use plan::KIND_FARM;
 pub use plan::KIND_MOVES;
 pub use plan::KIND_OPEN;

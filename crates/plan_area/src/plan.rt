@@ -13,7 +13,6 @@ ghost use Rattle.questions.specs.Bounds.{mostYards, mostFarms};
 ghost use Rattle.questions.specs.Sheet.{fee, farmByte, loadsOf, instanceBy};
 ghost use Rattle.questions.specs.Shape.{Shape};
 ghost use Rattle.plan_area.specs.Plan.{totalKind, openRecord, farmRecord, movesRecord, totalAmount, planFits, writing};
-use crate::nearest::nearest_of;
 use record::Record;
 use sheet::MOST_FARMS;
 use sheet::MOST_YARDS;
@@ -158,7 +157,7 @@ fn put_farm(
     ensures area { λ r. ⌜ now (area .exit) ≡ splice (now (area .entry)) at (farmRecord (instanceBy (now (sheet .entry)) m n) (farmByte (now (sheet .entry)) m) set farm) ⌝ }
 {
     let hauls = sheet::farm_stretch(sheet, m, farm);
-    let near = nearest_of(sheet, hauls, set, yards);
+    let near = nearest::nearest_listed(sheet, hauls, yards);
     let byte3 = Record::at(hauls, 0).byte3;
     let record = Record::new(KIND_FARM, near.yard as u8, farm as u8, byte3, near.haul);
     record.put(area, at);

@@ -1,11 +1,10 @@
 // Pricing a set of yards: `price` asks what reading asks and questions 8 and 9 of document 01, and writes the plan of the set that it is given. The
 // call is total.
 ghost use mathlib.Core.Path.{_≡_};
-ghost use Prim.Native.Nat.{_≤_};
 ghost use lib.ListN.{length};
-ghost use Rattle.questions.specs.Bounds.{mostYards};
 ghost use Rattle.price.specs.Pricing.{plannedAnswer, answer, areaAfter, question8, pricing, SetKept};
 use plan_area::Total;
+use sheet::MOST_YARDS;
 use sheet::Reading;
 
 // What a call that writes a plan answers: the bytes written and the moves made, or the number of the first question that is
@@ -39,10 +38,12 @@ pub fn price(sheet: &[u8], set: u32, area: &mut [u8]) -> Planned
     }
 }
 
-// Question 8, of a sheet of m yards.
-fn set_good(m: usize, set: u32) -> bool
-    requires { ⌜ m ≤ mostYards ⌝ }
+// Question 8, of a sheet of m yards, for callers that have read it.
+pub fn set_good(m: usize, set: u32) -> bool
     ensures { λ r. ⌜ r ≡ question8 m set ⌝ }
 {
+    if MOST_YARDS <= m {
+        return 1 <= set;
+    }
     1 <= set && (set as u64) < 1u64 << (m as u64)
 }

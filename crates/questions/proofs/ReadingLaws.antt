@@ -8,7 +8,7 @@ use mathlib.Core.List.{List}
 use Rattle.model.specs.Instance.{Breaks}
 use Rattle.model.proofs.CostLaws.{not-metric, broken}
 use Rattle.model.proofs.AnswerLaws.{same-result, not-both, asked, passed-first}
-use Rattle.model.specs.Answers.{Answer, accepted, refused, ask, after}
+use Rattle.model.specs.Answers.{Answer, accepted, refused}
 use Rattle.questions.specs.Sheet.{yards, farms, instanceOf}
 use Rattle.questions.specs.Questions.{question1, question2, question3, question4, question10, question5, question6}
 use Rattle.questions.specs.Reading.{Counts, counts, form, formAndLoads, reading}

@@ -8,7 +8,7 @@ use mathlib.Core.List.{List, [], _∷_, _++_}
 use borrow.Author.Tests.{le-leb, lt-leb}
 use lib.ListN.{length, getD, take, drop, set, length-drop, List·getD-append}
 use lib.Seq.{getD-take, getD-drop, getD-append-add, length-take-le, sets-eq}
-use Rattle.record.specs.Records.{word, wordBytes, recordOf, recordAt, wholeRecordAt, bytesOf, splice, putAt, amountEnd}
+use Rattle.record.specs.Records.{word, wordBytes, recordOf, recordAt, wholeRecordAt, bytesOf, splice, putAt, amountEnd, amountAt}
 use Rattle.record.specs.declared.Record.{Record}
 use Rattle.record.proofs.SpliceLaws.{splice-turn}
 
@@ -50,6 +50,12 @@ eight-bytes s part i room cut =
     let e : part ≡ take 8 (drop (8 * i) s) = cut ∙ ap (λ (n : ℕ). take n (drop (8 * i) s)) eight in
     let size : length part ≡ 8 = ap length e ∙ length-take-le 8 (drop (8 * i) s) (omega (arith, length-drop (8 * i) s)) in
     whole part 0 (omega arith) ∙ ap (λ (x : List ℕ). recordAt x 0) e ∙ part-record s i 1 0 (omega arith) ∙ ap (recordAt s) (add-zero i)
+
+-- its amount, read so
+pub part-amount : (bytes part : List ℕ) (i : ℕ) (r : Record) → 8 * i + 8 ≤ length bytes → part ≡ take (8 * i + 8 - 8 * i) (drop (8 * i) bytes)
+    → r ≡ wholeRecordAt part 0 → r .amount ≡ amountAt bytes i
+unfolding amountAt
+part-amount bytes part i r room cut read = ap (λ (x : Record). x .amount) (read ∙ eight-bytes bytes part i room cut)
 
 -- ---- a record of bytes that stand before others, and of bytes behind k whole records
 

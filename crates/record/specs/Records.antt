@@ -32,6 +32,10 @@ recordAt s i =
     recordOf (getD s (8 * i) 0) (getD s (8 * i + 1) 0) (getD s (8 * i + 2) 0) (getD s (8 * i + 3) 0)
     (word (getD s (8 * i + 4) 0) (getD s (8 * i + 5) 0) (getD s (8 * i + 6) 0) (getD s (8 * i + 7) 0))
 
+-- its amount
+unfoldable pub amountAt : List ℕ → ℕ → ℕ
+amountAt bytes i = recordAt bytes i .amount
+
 -- record i where the bytes hold it whole, else a record of zeros
 unfoldable pub wholeRecordAt : List ℕ → ℕ → Record
 wholeRecordAt s i = cond (leb (8 * i + 8) (length s)) (recordAt s i) (recordOf 0 0 0 0 0)

@@ -14,7 +14,7 @@ use Rattle.model.specs.Plans.{openCost, limitedCost}
 use Rattle.model.proofs.SumLaws.{sum-cong, sum-zero, on-zero}
 use Rattle.model.proofs.CostLaws.{same-service, same-opening}
 use Rattle.record.specs.declared.Record.{Record}
-use Rattle.record.specs.Records.{recordAt, wholeRecordAt}
+use Rattle.record.specs.Records.{recordAt, wholeRecordAt, amountAt}
 use Rattle.questions.specs.Bounds.{mostLoads, mostFee, mostHaul}
 use Rattle.model.specs.Answers.{accepted}
 use Rattle.questions.specs.Sheet.{fee, haul, farmByte, loadsOf, instanceBy}
@@ -23,7 +23,6 @@ use Rattle.questions.proofs.AcceptedLaws.{HasAmounts, accepts, shape-of}
 use Rattle.sheet.specs.Stretch.{stretch}
 use Rattle.sheet.proofs.FarmLaws.{stretch-record}
 use Rattle.plan_area.proofs.PlanRecordLaws.{byte-on}
-use Rattle.plan_area.specs.Nearest.{amountAt}
 use Rattle.tables.specs.Tables.{tabled, tableCost, goodTables}
 use Rattle.tables.proofs.LentTableLaws.{good-from}
 use Rattle.engine.specs.declared.Neighbourhood.{Neighbourhood}

@@ -5,7 +5,7 @@ ghost use lib.ListN.{length};
 ghost use Rattle.model.specs.Answers.{accepted};
 ghost use Rattle.questions.specs.Sheet.{fee};
 ghost use Rattle.questions.specs.Reading.{counts, reading};
-ghost use Rattle.plan_area.specs.Nearest.{amountAt};
+ghost use Rattle.record.specs.Records.{amountAt};
 ghost use Rattle.search.specs.SheetTables.{Holds, loadedHaul};
 use record::Record;
 

@@ -1,9 +1,9 @@
 -- Laws of questions 11 and 12: the cases of reading a tariff, which part of a question decides it, and that accepted bands are proper.
-use Prim.Native.Nat.{ℕ, suc, _+_, _-_, _/_, _%_, _≤_, _<_}
+use Prim.Native.Nat.{ℕ, suc, _+_, _-_, _%_, _≤_, _<_}
 use native.Mathlib.Numerals.{add-one}
 use native.Mathlib.Omega.{arith}
 use mathlib.Core.Path.{_≡_, refl, sym, ap, _∙_}
-use mathlib.Core.Bool.{Bool, true, false, _&&_, and-false}
+use mathlib.Core.Bool.{true, false, _&&_, and-false}
 use mathlib.Core.List.{List}
 use borrow.Author.Tests.{eqb-true, leb-true, ltb-true, ne-eqb, eq-eqb, lt-leb, le-leb}
 use lib.Dec.{eqb, leb, ltb}

@@ -1,7 +1,6 @@
 // Questions 11 and 12: a tariff read from its records.
 ghost use mathlib.Core.Path.{_≡_};
 ghost use mathlib.Core.Bool.{true};
-ghost use Rattle.record.specs.Records.{records};
 ghost use Rattle.tariff.specs.Questions.{bandOf, inPlace, question11, question12};
 ghost use Rattle.tariff.specs.Reading.{bandsOf, tariffReading, ReadAs};
 ghost use Rattle.tariff.specs.Pricing.{PricesAs};

@@ -1,6 +1,7 @@
-//! The tool for people: makes sheets and tariffs from tables, shows them, and puts plans, prices and refusals in words.
+//! The tool for people: makes sheets and tariffs from tables, shows them, and puts plans, prices, what shutting a yard changes and
+//! refusals in words.
 use planner::csv::{self, Amounts, Typed};
-use planner::words::{said, tariffs, Names, Request, Said, REFUSED};
+use planner::words::{said, shutting, tariffs, Names, Request, Said, REFUSED};
 use planner::{bands, Tariff};
 use std::io::Write;
 use std::process::ExitCode;
@@ -14,16 +15,18 @@ sheet show FILE                     the sheet as a table
 sheet plan FILE                     the open plan
 sheet plan FILE K                   the limited plan for K yards
 sheet price FILE YARD ..            the price of a set of yards, given by their numbers
+sheet shut FILE                     what shutting each yard of the open plan would change
+sheet shut FILE YARD ..             the same for a set of yards, given by their numbers
 sheet make-tariff TABLE.csv FILE    writes the table as a tariff to FILE and says what reading answers
 sheet tariff FILE                   the tariff as a table of its bands
 sheet tariff --house-tariff         the house tariff as a table of its bands
 
-show, plan and price take the names of yards and farms from the table: --names TABLE.csv
+show, plan, price and shut take the names of yards and farms from the table: --names TABLE.csv
 In the table, line 1 has the word cents and the names of the yards, line 2 the word fee and their fees, and each line after
 them the name of a farm and the haul of one load to each yard. The second column, right after the names of the farms, may be
 headed loads: each farm's loads, 1 to 20, an empty cell for one load, and no fee.
 
-For a sheet of distances, make, show, plan and price take the tariff that prices them: --tariff FILE or --house-tariff
+For a sheet of distances, make, show, plan, price and shut take the tariff that prices them: --tariff FILE or --house-tariff
 Its table has distances for hauls; line 1 begins with the words distances in hundreds of metres, line 2 with fee in cents.
 In the table of a tariff, line 1 has the words end in hundreds of metres and rate in cents per hundred metres, and each line
 after it the end and the rate of a band, up to 65535. The first band starts at 0, each other one where the one before it ends.
@@ -50,6 +53,8 @@ fn done(words: &[String], options: &Options) -> Result<Told, Said> {
         (["plan", file], ..) => tell(file, Request::OpenPlan, options),
         (["plan", file, k], ..) => tell(file, Request::LimitedPlan(number(k)?), options),
         (["price", file, yards @ ..], ..) => tell(file, Request::Price(set(yards)?), options),
+        (["shut", file], ..) => tell_shut(file, None, options),
+        (["shut", file, yards @ ..], ..) => tell_shut(file, Some(set(yards)?), options),
         (["make-tariff", table, file], None, Tariff::None) => make_tariff(table, file),
         (["tariff", file], None, Tariff::None) => tell_tariff(file),
         (["tariff"], None, Tariff::House) => Ok(Told::Result(tariffs::shown(Tariff::House, &Names::default()))),
@@ -153,13 +158,23 @@ fn tell_tariff(file: &str) -> Result<Told, Said> {
 }
 
 fn tell(file: &str, request: Request, options: &Options) -> Result<Told, Said> {
+    let (sheet, names) = sheet_and_names(file, options)?;
+    Ok(Told::Result(said(request, &sheet, options.tariff(), &names)))
+}
+
+fn tell_shut(file: &str, set: Option<u32>, options: &Options) -> Result<Told, Said> {
+    let (sheet, names) = sheet_and_names(file, options)?;
+    Ok(Told::Result(shutting::said(set, &sheet, options.tariff(), &names)))
+}
+
+fn sheet_and_names(file: &str, options: &Options) -> Result<(Vec<u8>, Names), Said> {
     let sheet = bytes(file)?;
     let mut names = match &options.names {
         Some(table) => names_of(&sheet, file, table, options.tariff())?,
         None => Names::default(),
     };
     names.tariff = options.tariff_file().unwrap_or_default().into();
-    Ok(Told::Result(said(request, &sheet, options.tariff(), &names)))
+    Ok((sheet, names))
 }
 
 /// The names of a table, which must be the one that the sheet was made from: others would send farms to wrong yards. A sheet

@@ -1,22 +1,26 @@
 //! The number that tells a call by a tariff what the amounts of haul records are: 0 hauls, 1 distances by the house tariff, and any
-//! other distances by the tariff handed over, which is looked at only then.
+//! other distances by the tariff handed over, which is looked at only then. And the parts of the results of paper 5's calls.
 use super::*;
 use crate::format::{band, MOST_AREA};
+use crate::random::Random;
 use crate::table::Table;
+use crate::{literal, samples};
 use std::array::from_fn;
 
-/// The whole results of the four calls, and the areas that they leave.
-fn results(sheet: &[u8], hauls: u8, tariff: &[u8]) -> ([u64; 4], [Vec<u8>; 3]) {
+/// The whole results of the six calls, and the areas that they leave.
+fn results(sheet: &[u8], hauls: u8, tariff: &[u8]) -> ([u64; 6], [Vec<u8>; 3]) {
     let (from, length, bands, bands_length) = (sheet.as_ptr(), sheet.len(), tariff.as_ptr(), tariff.len());
     let mut areas: [Vec<u8>; 3] = from_fn(|_| vec![0xA5; MOST_AREA]);
     let [priced, opened, limited] = areas.each_mut().map(|area| area.as_mut_ptr());
-    let (set, k) = (0b101, 2);
+    let (set, k, farm, yard) = (0b101, 2, 1, 0);
     let results = unsafe {
         [
             raw::planner_read_by(from, length, hauls, bands, bands_length),
             raw::planner_price_by(from, length, hauls, bands, bands_length, set, priced, MOST_AREA),
             raw::planner_open_plan_by(from, length, hauls, bands, bands_length, opened, MOST_AREA),
             raw::planner_limited_plan_by(from, length, hauls, bands, bands_length, k, limited, MOST_AREA),
+            raw::planner_second(from, length, hauls, bands, bands_length, set, farm),
+            raw::planner_shut(from, length, hauls, bands, bands_length, set, yard),
         ]
     };
     (results, areas)
@@ -38,16 +42,16 @@ fn every_number_from_2_on_means_the_given_tariff() {
         }
     }
     let number = |tariff: &[u8]| results(&sheet, 255, tariff).0.map(|result| result & 0xFF);
-    assert_eq!(number(&three_bands()), [0; 4]);
-    assert_eq!([number(&rising), number(&rising[8..]), number(&[])], [[12; 4], [11; 4], [11; 4]]);
-    assert_eq!(number(&too_short), [13; 4]);
+    assert_eq!(number(&three_bands()), [0; 6]);
+    assert_eq!([number(&rising), number(&rising[8..]), number(&[])], [[12; 6], [11; 6], [11; 6]]);
+    assert_eq!(number(&too_short), [13; 6]);
 }
 
 #[test]
 fn a_refused_call_gives_its_number_alone() {
     let sheet = Table::s().sheet();
     let (results, areas) = results(&sheet, 2, &band(0, 0, 8, 4));
-    assert_eq!(results, [13; 4]);
+    assert_eq!(results, [13; 6]);
     assert!(areas.iter().flatten().all(|&byte| byte == 0xA5));
 }
 
@@ -62,5 +66,62 @@ fn the_tariff_is_looked_at_only_where_it_is_given() {
     for tariff in [&three_bands()[..], &[0; 8], &[0xFF; 300]] {
         assert_eq!(results(&sheet, 0, tariff), hauls, "tariff {tariff:?}");
         assert_eq!(results(&sheet, 1, tariff), house, "tariff {tariff:?}");
+    }
+}
+
+#[test]
+fn the_parts_of_a_second_yard() {
+    assert_eq!(found(1 << 8 | 31 << 16 | 1_000_000 << 32), Ok(Some(Second { yard: 31, haul: 1_000_000 })));
+    assert_eq!(found(1 << 8), Ok(Some(Second { yard: 0, haul: 0 })));
+    assert_eq!(found(u64::MAX << 8), Ok(Some(Second { yard: 255, haul: u32::MAX })));
+    assert_eq!([found(0), found(8), found(13)], [Ok(None), Err(8), Err(13)]);
+}
+
+#[test]
+fn the_parts_of_a_change() {
+    assert_eq!([change(0), change(1 << 16), change(1 << 8 | 1 << 16)], [Ok(0), Ok(1), Ok(-1)]);
+    // The most that shutting a yard costs, 128 × 20 × 1,000,000, and the most that it saves.
+    assert_eq!(change(2_560_000_000 << 16), Ok(2_560_000_000));
+    assert_eq!(change(1 << 8 | 50_000_000 << 16), Ok(-50_000_000));
+    assert_eq!(change(u64::MAX << 8), Ok(-0xFFFF_FFFF_FFFF));
+    assert_eq!([change(8), change(14)], [Err(8), Err(14)]);
+}
+
+fn whole_second(sheet: &[u8], set: u32, farm: usize) -> u64 {
+    unsafe { raw::planner_second(sheet.as_ptr(), sheet.len(), 0, [].as_ptr(), 0, set, farm) }
+}
+
+fn whole_shut(sheet: &[u8], set: u32, yard: usize) -> u64 {
+    unsafe { raw::planner_shut(sheet.as_ptr(), sheet.len(), 0, [].as_ptr(), 0, set, yard) }
+}
+
+/// Fees 1, 4 and 9: all three yards cost 17, {1, 2} 18, {0, 2} 17 and {0, 1} 12.
+#[test]
+fn the_whole_results_of_second_yards_and_changes() {
+    let sheet = Table { fees: vec![1, 4, 9], ..Table::s() }.sheet();
+    let seconds = [0, 1, 2, 3].map(|farm| whole_second(&sheet, 0b111, farm));
+    assert_eq!(seconds, [3 << 32 | 1 << 16 | 1 << 8, 5 << 32 | 1 << 8, 5 << 32 | 1 << 16 | 1 << 8, 0]);
+    assert_eq!([0b001, 0, 0b1000].map(|set| whole_second(&sheet, set, 0)), [0, 8, 8]);
+    assert_eq!([0, 1, 2, 3].map(|yard| whole_shut(&sheet, 0b111, yard)), [1 << 16, 0, 5 << 16 | 1 << 8, 14]);
+    assert_eq!([0b100, 0, 0b1000].map(|set| whole_shut(&sheet, set, 2)), [14, 8, 8]);
+    let second = Second { yard: 1, haul: 3 };
+    assert_eq!((super::second(&sheet, 0b111, 0), super::shut(&sheet, 0b111, 2)), (Ok(Some(second)), Ok(-5)));
+}
+
+/// On seeded sheets the results have the bits of the second program's answers and no others.
+#[test]
+fn bits_that_are_not_named_are_zero() {
+    let of_second = |Second { yard, haul }: Second| 1 << 8 | (yard as u64) << 16 | u64::from(haul) << 32;
+    let of_change = |change: i64| u64::from(change < 0) << 8 | change.unsigned_abs() << 16;
+    for seed in 0..40 {
+        let sheet = samples::tied(&mut Random::new(seed), 4, 6).sheet;
+        for (set, number) in (0..=1 << 4).flat_map(|set| (0..8).map(move |number| (set, number))) {
+            let second = literal::second_by(&sheet, Tariff::None, set, number);
+            let bits = second.map_or_else(u64::from, |second| second.map_or(0, of_second));
+            assert_eq!(whole_second(&sheet, set, number), bits, "seed {seed}, set {set}, farm {number}");
+            let change = literal::shut_by(&sheet, Tariff::None, set, number);
+            let bits = change.map_or_else(u64::from, of_change);
+            assert_eq!(whole_shut(&sheet, set, number), bits, "seed {seed}, set {set}, yard {number}");
+        }
     }
 }

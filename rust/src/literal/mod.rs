@@ -1,9 +1,10 @@
-//! Document 01, with papers 1, 2 and 3 of document 02, written a second time, sentence by sentence and in its order, to compare the
-//! proved library with. Plain before fast: every question is asked over the whole sheet and every move is priced from nothing.
+//! Document 01, with papers 1, 2, 3 and 5 of document 02, written a second time, sentence by sentence and in its order, to compare
+//! the proved library with. Plain before fast: every question is asked over the whole sheet and every move is priced from nothing.
 mod haul_sheet;
 mod plan_area;
 mod questions;
 mod search;
+mod shut;
 mod tariff;
 #[cfg(test)]
 mod tests;
@@ -13,6 +14,7 @@ use questions::{ask, ask_1_to_4, ask_1_to_6, question_7, question_8, question_9}
 use search::Settled;
 
 pub use search::{ChosenBy, Move};
+pub use shut::{second_by, shut_by};
 
 /// Reading asks 1 to 6 and returns m and n. Wherever 1 to 6 are asked, paper 2 has 10 asked after 4.
 pub fn read(sheet: &[u8]) -> Answer<Counts> {

@@ -1,5 +1,6 @@
 //! What only this program tells: the moves one by one, the costs of sets, what a yard is chosen by, a farm's stretch; and each of
-//! these with loads. `tariffs` has hauls from a tariff.
+//! these with loads. `shut` has second yards and what shutting one changes, `tariffs` hauls from a tariff.
+mod shut;
 mod tariffs;
 
 use super::*;

@@ -1,7 +1,7 @@
-//! The questions put to a call by their numbers, in the words of document 01 and, for loads and tariffs, of papers 2 and 3 of
-//! document 02.
+//! The questions put to a call by their numbers, in the words of document 01 and, for loads, tariffs and a yard that shuts, of
+//! papers 2, 3 and 5 of document 02.
 
-pub const QUESTIONS: [&str; 13] = [
+pub const QUESTIONS: [&str; 14] = [
     "Is the length a multiple of 8, from 16 to 33,024 bytes?",
     "Is every kind 59 or 48 hex, every byte 3 zero (since paper 2 in yard records alone), and byte 2 zero in every yard \
      record?",
@@ -18,4 +18,5 @@ pub const QUESTIONS: [&str; 13] = [
      its predecessor's end, without a gap, an overlap or an empty band?",
     "Tariff (paper 3): is no rate above the band before it?",
     "Distances (paper 3): is no distance past the last end?",
+    "Shutting a yard (paper 5): is the named yard in the set, and not its only yard?",
 ];

@@ -1,5 +1,5 @@
 //! Why a call is refused: the first question that is answered no, and where. The order is 11, 12, 1, 2, 3, 4, 10, 13, 5, 6, 7, 8,
-//! 9; `tariff` has 11 and 12, and `amounts` 13, 5 and 6.
+//! 14, 9; `tariff` has 11 and 12, and `amounts` 13, 5 and 6.
 //!
 //! The number of a refusal is the library's. The fault is searched here, from the documents alone, and must be of that number.
 mod amounts;
@@ -19,6 +19,8 @@ pub struct Given<'a> {
     pub tariff: Tariff<'a>,
     pub k: Option<usize>,
     pub set: Option<u32>,
+    /// The yard of the set that is to shut.
+    pub shut: Option<usize>,
     /// The length of the lent plan area.
     pub area: Option<usize>,
 }
@@ -67,7 +69,7 @@ fn after_yards(records: &[&[u8]], given: &Given, names: &Names) -> Option<Fault>
         .or_else(|| sheet.distances())
         .or_else(|| sheet.bounds())
         .or_else(|| sheet.four_points(names))
-        .or_else(|| beside(given, m, n))
+        .or_else(|| beside(given, m, n, names))
 }
 
 fn without_record(question: u8, words: String) -> Option<Fault> {
@@ -182,19 +184,35 @@ fn loads(records: &[&[u8]], m: usize, names: &Names) -> Option<Fault> {
     at_record(10, records, at, format!("Its byte 3, the loads of {farm}, {words}"))
 }
 
-/// Questions 7, 8 and 9, where they are put.
-fn beside(given: &Given, m: usize, n: usize) -> Option<Fault> {
+/// Questions 7, 8, 14 and 9, where they are put.
+fn beside(given: &Given, m: usize, n: usize, names: &Names) -> Option<Fault> {
     if let Some(k) = given.k.filter(|k| !(1..=m).contains(k)) {
         return without_record(7, format!("k is {k}. Asked: from 1 to {m}, the count of yards."));
     }
     if let Some(set) = given.set.filter(|&set| set == 0 || set as u64 >> m != 0) {
-        let marked: Vec<String> =
-            (0..u32::BITS).filter(|yard| set >> yard & 1 == 1).map(|yard| yard.to_string()).collect();
-        let marks = if set == 0 { "no yard".into() } else { format!("these yards: {}", marked.join(", ")) };
+        let marks = if set == 0 { "no yard".into() } else { marked(set) };
         let asked = format!("Asked: at least one of the sheet's {m} yards, 0 to {}, and no other.", m - 1);
         return without_record(8, format!("The set is {set:08X} hex and marks {marks}. {asked}"));
+    }
+    if let Some(words) = given.set.zip(given.shut).and_then(|(set, yard)| cannot_shut(set, yard, names)) {
+        return without_record(14, words);
     }
     let asked = least_area(m, n);
     let area = given.area.filter(|&area| area < asked)?;
     without_record(9, format!("The area has {area} bytes. Asked: at least {RECORD} × ({m} + {n} + 2) = {asked}."))
+}
+
+fn marked(set: u32) -> String {
+    let yards: Vec<String> = (0..u32::BITS).filter(|yard| set >> yard & 1 == 1).map(|yard| yard.to_string()).collect();
+    format!("these yards: {}", yards.join(", "))
+}
+
+/// Why a yard cannot be shut, if it cannot.
+fn cannot_shut(set: u32, yard: usize, names: &Names) -> Option<String> {
+    let is_marked = yard < u32::BITS as usize && set >> yard & 1 == 1;
+    if !is_marked {
+        return Some(format!("The set marks {}, and not {}.", marked(set), names.yard(yard)));
+    }
+    let only = set.count_ones() == 1;
+    only.then(|| format!("The set has one yard, {}: the only yard cannot be shut.", names.yard(yard)))
 }

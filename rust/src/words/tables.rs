@@ -116,16 +116,16 @@ fn distance(sheet: &[u8], farms: usize, yard: usize, farm: usize) -> u32 {
     amount(&sheet[RECORD * (yards + farm * yards + yard)..])
 }
 
-fn of_kind(area: &[u8], kind: u8) -> impl Iterator<Item = &[u8]> {
+pub fn of_kind(area: &[u8], kind: u8) -> impl Iterator<Item = &[u8]> {
     area.chunks_exact(RECORD).filter(move |record| record[0] == kind)
 }
 
 /// The loads of a haul's or a farm's record: byte 3, of which 0 is read as 1.
-fn loads(record: &[u8]) -> u64 {
+pub fn loads(record: &[u8]) -> u64 {
     record[3].max(1).into()
 }
 
-fn several_loads<'a>(mut records: impl Iterator<Item = &'a [u8]>) -> bool {
+pub fn several_loads<'a>(mut records: impl Iterator<Item = &'a [u8]>) -> bool {
     records.any(|record| loads(record) > 1)
 }
 
@@ -133,7 +133,7 @@ fn haul_of_all_loads(farm: &[u8]) -> u64 {
     loads(farm) * amount(farm) as u64
 }
 
-fn text_where(shown: bool, cell: impl ToString) -> String {
+pub fn text_where(shown: bool, cell: impl ToString) -> String {
     if shown {
         cell.to_string()
     } else {
@@ -141,17 +141,17 @@ fn text_where(shown: bool, cell: impl ToString) -> String {
     }
 }
 
-fn row<const CELLS: usize>(cells: [&str; CELLS]) -> Vec<String> {
+pub fn row<const CELLS: usize>(cells: [&str; CELLS]) -> Vec<String> {
     cells.map(String::from).to_vec()
 }
 
-fn name(names: &[String], number: usize) -> &str {
+pub fn name(names: &[String], number: usize) -> &str {
     names.get(number).map_or("", String::as_str)
 }
 
 /// Rows as lines of equal columns. Columns of names begin at the left, the others end at the right; a column with nothing
 /// in it is left out.
-fn aligned(rows: &[Vec<String>], names: &[usize]) -> String {
+pub fn aligned(rows: &[Vec<String>], names: &[usize]) -> String {
     let width = |column: usize| rows.iter().map(|row| row[column].chars().count()).max().unwrap_or(0);
     let widths: Vec<usize> = (0..rows[0].len()).map(width).collect();
     let mut text = String::new();

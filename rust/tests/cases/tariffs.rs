@@ -37,7 +37,7 @@ pub fn all(calls: &Calls) -> Vec<String> {
 }
 
 /// A tariff of bands from 0 on, each an end and a rate.
-fn tariff_of(bands: &[(u16, u16)]) -> Vec<u8> {
+pub fn tariff_of(bands: &[(u16, u16)]) -> Vec<u8> {
     let starts = [0].into_iter().chain(bands.iter().map(|&(end, _)| end));
     let list = starts.zip(bands).enumerate();
     list.flat_map(|(number, (start, &(end, rate)))| band(number, start, end, rate)).collect()
@@ -48,11 +48,11 @@ fn one(distance: u32) -> Vec<u8> {
     Table::even(1, 1, 0, distance).sheet()
 }
 
-fn d() -> Table {
+pub fn d() -> Table {
     Table::new(vec![1000, 4000, 2000], vec![vec![100, 300, 900], vec![500, 100, 500], vec![900, 500, 100]])
 }
 
-fn t() -> Vec<u8> {
+pub fn t() -> Vec<u8> {
     tariff_of(&[(100, 3), (1000, 0)])
 }
 

@@ -1,7 +1,10 @@
 //! Sheets and plans written out for the tests of document 01's examples, with the bounds once more, and what every
 //! implementation is asked of them.
-use planner::calls::{Calls, PlanCall as Call, ALL};
-use planner::{Answer, Counts, Written};
+use planner::calls::{Calls, PlanCall as Call, ShutCalls, ALL, SHUT_LIBRARY, SHUT_LITERAL};
+use planner::{Answer, Counts, Second, Tariff, Written};
+
+/// The calls of paper 5 of document 02.
+const SHUT: [ShutCalls; 2] = [SHUT_LIBRARY, SHUT_LITERAL];
 
 /// What an area holds before a call.
 const BEFORE: u8 = 0xA7;
@@ -113,6 +116,26 @@ pub fn check_read(sheet: &[u8], yards: usize, farms: usize) {
     }
 }
 
+/// Farms from 0 on have these second yards in the set, each with its haul, and any farm after them none.
+pub fn check_seconds(sheet: &[u8], set: u32, seconds: &[(usize, u32)]) {
+    for calls in &SHUT {
+        let second = |farm| (calls.second_by)(sheet, Tariff::None, set, farm);
+        for (farm, &(yard, haul)) in seconds.iter().enumerate() {
+            assert_eq!(second(farm), Ok(Some(Second { yard, haul })), "{} farm {farm} in {set:b}", calls.name);
+        }
+        for farm in [seconds.len(), usize::MAX] {
+            assert_eq!(second(farm), Ok(None), "{} farm {farm} in {set:b}", calls.name);
+        }
+    }
+}
+
+/// Shutting this yard of the set is answered so.
+pub fn check_shut(sheet: &[u8], set: u32, yard: usize, answer: Answer<i64>) {
+    for calls in &SHUT {
+        assert_eq!((calls.shut_by)(sheet, Tariff::None, set, yard), answer, "{} {yard} of {set:b}", calls.name);
+    }
+}
+
 /// Every call is refused with this number, even where a later question would be answered no too.
 pub fn check_sheet_refused(sheet: &[u8], number: u8) {
     for calls in &ALL {
@@ -127,5 +150,11 @@ pub fn check_sheet_refused(sheet: &[u8], number: u8) {
     ] {
         check_refused(sheet, call, AMPLE, number);
         check_refused(sheet, call, 0, number);
+    }
+    for set in [0, 1] {
+        for calls in &SHUT {
+            assert_eq!((calls.second_by)(sheet, Tariff::None, set, 0), Err(number), "{}", calls.name);
+        }
+        check_shut(sheet, set, 0, Err(number));
     }
 }

@@ -20,7 +20,7 @@ pub struct OfCall {
 
 #[derive(Default)]
 pub struct Loads {
-    calls: [OfCall; 4],
+    calls: [OfCall; NAMES.len()],
 }
 
 impl Loads {

@@ -1,6 +1,7 @@
 //! Every call on one sheet, without a tariff or by one: the proved library against the other implementations, area and all, byte for
-//! byte. `fast` is among them so that the benchmark's times are those of the same answers.
+//! byte. `fast` is among them so that the benchmark's times are those of the same answers. `shut` has the calls of paper 5.
 mod loads;
+mod shut;
 mod tally;
 mod tariffs;
 
@@ -73,10 +74,12 @@ impl<'a> Comparison<'a> {
 
     fn reading_and_plans(&mut self) {
         let tariff_before = self.tariff.map(|tariff| tariff.bytes.clone());
-        match self.reading() {
+        let counts = self.reading();
+        match counts {
             Ok(counts) => self.plans(counts),
             Err(_) => self.refusals(),
         }
+        self.shutting(counts.ok());
         assert!(self.before == self.sample.sheet, "a call wrote to the sheet; {}", self.sheet());
         let tariff_after = self.tariff.map(|tariff| tariff.bytes.clone());
         assert!(tariff_before == tariff_after, "a call wrote to the tariff; {}", self.sheet());
@@ -183,23 +186,32 @@ impl<'a> Comparison<'a> {
         }
     }
 
-    /// Sets with and without marks at m and above; counts from 0 to past m, and ones whose low part alone would pass.
+    /// Every set; counts from 0 to past m, and ones whose low part alone would pass.
     fn calls(&mut self, yards: usize, large: bool) -> Vec<PlanCall> {
-        let all = u32::MAX >> (u32::BITS as usize - yards);
-        let mut next = || self.random.draw() as u32;
-        let within = [1, all, all >> (yards / 2), next() & all, next() & all, next() & all, next() & next() & all];
-        let past_all = [0, u32::MAX, 1 << 31, all.wrapping_add(1), all.wrapping_add(1) | next() & all, next()];
-        let mut sets: Vec<u32> = within.into_iter().chain(past_all).collect();
+        let sets = self.sets(yards, large);
         let past_yards = [yards + 1, MOST_YARDS + 1, 257, (1 << 32) + 1, usize::MAX];
         let mut counts: Vec<usize> = (0..=yards).chain(past_yards).collect();
         if large {
-            (sets, counts) = (self.some_of(CHOICE, sets), self.some_of(CHOICE, counts));
-            sets.push(all);
+            counts = self.some_of(CHOICE, counts);
         }
         let mut calls = vec![PlanCall::OpenPlan];
         calls.extend(sets.into_iter().map(|set| PlanCall::Price { set }));
         calls.extend(counts.into_iter().map(|k| PlanCall::LimitedPlan { k }));
         calls
+    }
+
+    /// Sets with and without marks at m and above.
+    fn sets(&mut self, yards: usize, large: bool) -> Vec<u32> {
+        let all = u32::MAX >> (u32::BITS as usize - yards);
+        let mut next = || self.random.draw() as u32;
+        let within = [1, all, all >> (yards / 2), next() & all, next() & all, next() & all, next() & next() & all];
+        let past_all = [0, u32::MAX, 1 << 31, all.wrapping_add(1), all.wrapping_add(1) | next() & all, next()];
+        let mut sets: Vec<u32> = within.into_iter().chain(past_all).collect();
+        if large {
+            sets = self.some_of(CHOICE, sets);
+            sets.push(all);
+        }
+        sets
     }
 
     /// One call with an area of the given length, filled with random bytes before: the library's against each other implementation's.

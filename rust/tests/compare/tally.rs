@@ -1,5 +1,6 @@
 //! How many calls were compared, by call and by answer, and how many farms of their plans, by what their yard was chosen by.
 use super::loads::Loads;
+use super::shut::Shut;
 use super::tariffs::Tariffs;
 use planner::calls::PlanCall;
 use planner::literal::ChosenBy;
@@ -10,6 +11,8 @@ pub enum Name {
     Price,
     OpenPlan,
     LimitedPlan,
+    Second,
+    Shut,
 }
 
 impl Name {
@@ -22,15 +25,17 @@ impl Name {
     }
 }
 
-pub const NAMES: [Name; 4] = [Name::Read, Name::Price, Name::OpenPlan, Name::LimitedPlan];
+pub const NAMES: [Name; 6] = [Name::Read, Name::Price, Name::OpenPlan, Name::LimitedPlan, Name::Second, Name::Shut];
 
 #[derive(Default)]
 pub struct Tally {
     /// For each call, how often it was accepted (place 0) and refused with each number.
-    answers: [[u64; 14]; 4],
+    answers: [[u64; 15]; NAMES.len()],
     /// For each call, the farms of its plans by `ChosenBy`.
-    chosen: [[u64; 3]; 4],
+    chosen: [[u64; 3]; NAMES.len()],
     pub loads: Loads,
+    /// Of second yards and of yards that shut.
+    pub shut: Shut,
     /// Of calls by a tariff.
     pub tariffs: Tariffs,
     /// Of all accepted calls.
@@ -58,7 +63,7 @@ impl Tally {
         }
     }
 
-    /// Calls of reading, pricing and plans; the many calls for the length or a byte of a stretch are not among them.
+    /// Calls of reading, pricing, plans and paper 5; the many calls for the length or a byte of a stretch are not among them.
     pub fn calls(&self) -> u64 {
         self.answers.iter().flatten().sum()
     }
@@ -84,6 +89,7 @@ impl Tally {
             println!("{:>12} {chosen:?}", format!("{name:?}"));
         }
         self.loads.print();
+        self.shut.print();
         self.tariffs.print();
         let Tally { moves, whole_stretches, empty_stretches, bytes, .. } = self;
         println!("{moves} moves");

@@ -72,7 +72,7 @@ const HIGH: u32 = i16::MAX as u32;
 #[derive(Default)]
 pub struct Tariffs {
     /// By call.
-    refused: [[u64; CIRCUMSTANCES.len()]; 4],
+    refused: [[u64; CIRCUMSTANCES.len()]; NAMES.len()],
     bands: [u64; MOST_BANDS],
     facts: [u64; FACTS.len()],
     /// Refused by 6 though the distances keep the rule: by no accepted tariff (paper 3 of document 02).
@@ -130,8 +130,8 @@ impl Tariffs {
         }
     }
 
-    /// How often calls were refused so: Read, Price, OpenPlan, LimitedPlan.
-    pub fn refusals(&self) -> [(&'static str, [u64; 4]); CIRCUMSTANCES.len()] {
+    /// How often calls were refused so, in the order of `NAMES`.
+    pub fn refusals(&self) -> [(&'static str, [u64; NAMES.len()]); CIRCUMSTANCES.len()] {
         CIRCUMSTANCES.map(|(of, text)| (text, NAMES.map(|name| self.refused[name as usize][of as usize])))
     }
 

@@ -48,11 +48,18 @@ fn any_tariff(random: &mut Random, highest_rate: u64) -> Vec<u8> {
     tariff
 }
 
-/// What is given beside the sheet and the tariff.
+/// What is given beside the sheet and the tariff: k or a set and an area, or a set and the yard that is to shut.
 fn any_given(random: &mut Random) -> Given<'static> {
     let (k, set) = (random.between(0, 5) as usize, random.between(0, 20) as u32);
-    let (k, set) = if random.one_in(2) { (Some(k), None) } else { (None, Some(set)) };
-    Given { k, set, area: Some(random.between(50, 100) as usize), ..Given::default() }
+    let lent = Given { area: Some(random.between(50, 100) as usize), ..Given::default() };
+    match random.between(0, 2) {
+        0 => Given { k: Some(k), ..lent },
+        1 => Given { set: Some(set), ..lent },
+        _ => {
+            let number = [0, 1, 2, 3, 4, 31, 32, 33, 64, 255, 256, 1 << 32, usize::MAX][random.between(0, 12) as usize];
+            Given { set: Some(set), shut: Some(number), ..Given::default() }
+        }
+    }
 }
 
 fn compare(sheet: &[u8], given: &Given, seen: &mut Seen) {
@@ -61,8 +68,8 @@ fn compare(sheet: &[u8], given: &Given, seen: &mut Seen) {
     *seen.entry(found).or_insert(0) += 1;
 }
 
-fn assert_often(seen: &Seen, questions: u8) {
-    for question in std::iter::once(None).chain((1..=questions).map(Some)) {
+fn assert_often(seen: &Seen) {
+    for question in std::iter::once(None).chain((1..=14).map(Some)) {
         assert!(seen.get(&question).is_some_and(|&times| times >= 50), "{question:?} in {seen:?}");
     }
 }
@@ -75,7 +82,9 @@ fn on_damaged_sheets() {
         let sheet = any_sheet(&mut random, (4, 8));
         compare(&sheet, &any_given(&mut random), &mut seen);
     }
-    assert_often(&seen, 10);
+    // Without a tariff nothing is asked of one.
+    seen.extend([(Some(11), 50), (Some(12), 50), (Some(13), 50)]);
+    assert_often(&seen);
 }
 
 #[test]
@@ -96,6 +105,6 @@ fn on_damaged_sheets_of_distances_and_damaged_tariffs() {
     }
     // The house tariff is not asked 11 and 12.
     house.extend([(Some(11), 50), (Some(12), 50)]);
-    assert_often(&house, 13);
-    assert_often(&given, 13);
+    assert_often(&house);
+    assert_often(&given);
 }

@@ -26,7 +26,7 @@ fn the_tool_makes_shows_and_plans_with_these_statuses() {
     fs::write(folder.join("s.csv"), include_str!("../../../sheets/s.csv")).unwrap();
     fs::write(folder.join("far.csv"), "cents,A,B\nfee,0,0\nF,1,1\nG,1,4\n").unwrap();
     fs::write(folder.join("faulty.csv"), "cents,A\nfee,1\nF,1.5\n").unwrap();
-    let cases: [Case; 17] = [
+    let cases: [Case; 24] = [
         (&["make", "s.csv", "s.sheet"], 0, "", "accepted: yards 3, farms 3"),
         (&["make", "far.csv", "far.sheet"], 1, "", "refused 6\nQuestion 6: Four-point rule"),
         (&["make", "faulty.csv", "none.sheet"], 1, "", "faulty.csv: line 3, column 2: under yard A: '1.5'"),
@@ -42,6 +42,13 @@ fn the_tool_makes_shows_and_plans_with_these_statuses() {
         (&["price", "s.sheet", "0", "2"], 0, "   1             0            5", ""),
         (&["price", "s.sheet"], 1, "refused 8", ""),
         (&["price", "s.sheet", "32"], 2, "", "yard 32 cannot be in a set"),
+        (&["shut", "s.sheet", "--names", "s.csv"], 0, "   1  Middle           4      1  changes nothing     0\n", ""),
+        (&["shut", "s.sheet", "2", "1"], 0, "Shutting one yard of a set\n\nyard  fee, cents  farms", ""),
+        (&["shut", "s.sheet", "1"], 1, "refused 14\nQuestion 14: Shutting a yard (paper 5): is the named", ""),
+        (&["shut", "s.sheet", "3"], 1, "refused 8", ""),
+        (&["shut", "s.sheet", "0", "all"], 2, "", "all is not a whole number from 0 up"),
+        (&["shut", "far.sheet"], 1, "refused 6", ""),
+        (&["shut"], 2, "", "sheet shut FILE YARD .."),
         (&["plan", "none.sheet"], 2, "", "none.sheet cannot be read"),
         (&[], 2, "", "sheet make TABLE.csv FILE"),
     ];
@@ -93,7 +100,7 @@ fn the_tool_makes_and_shows_tariffs_and_plans_by_them_with_these_statuses() {
     files_of_distances(&folder);
     let usage = "sheet make-tariff TABLE.csv FILE";
     let once = "a sheet is priced by one tariff: give --tariff FILE or --house-tariff, and once";
-    let cases: [(&str, i32, &str, &str); 45] = [
+    let cases: [(&str, i32, &str, &str); 48] = [
         ("make-tariff good.csv good.tariff", 0, "", "accepted: bands 2, distances up to 250 hundreds of metres"),
         ("make-tariff empty.csv empty.tariff", 1, "", "refused 11\nQuestion 11: Tariff (paper 3): is it 1"),
         ("make-tariff rising.csv rising.tariff", 1, "", "refused 12\nQuestion 12: Tariff (paper 3): is no rate above"),
@@ -140,6 +147,14 @@ fn the_tool_makes_and_shows_tariffs_and_plans_by_them_with_these_statuses() {
             "   1  G             1  B                            99",
             "",
         ),
+        ("shut far.sheet --house-tariff", 1, "The set has one yard, yard 1: the only yard cannot be shut.\n", ""),
+        (
+            "shut far.sheet 0 1 --tariff good.tariff",
+            0,
+            "  saves 28040         1\n   1       20000      1  saves 16520",
+            "",
+        ),
+        ("shut far.sheet --names far.csv", 1, "", "so far.sheet is a sheet of distances: give the tariff"),
         ("plan far.sheet --names near.csv --house-tariff", 1, "", "is no sheet of distances and takes no tariff"),
         ("plan far.sheet --names far.csv", 1, "", "so far.sheet is a sheet of distances: give the tariff"),
         ("show far.sheet --names far.csv", 1, "", "so far.sheet is a sheet of distances: give the tariff"),

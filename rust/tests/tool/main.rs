@@ -1,7 +1,9 @@
 //! What the tool says: here the fault of every kind of refused call without a tariff, in `tariffs` those of tariffs and distances,
-//! in `agreement` that the tool and the library agree on damaged ones, in `commands` what the command line is answered.
+//! in `shutting` what shutting a yard would change, in `agreement` that the tool and the library agree on damaged ones, in `commands`
+//! what the command line is answered.
 mod agreement;
 mod commands;
+mod shutting;
 mod tariffs;
 
 use planner::format::record;
@@ -65,6 +67,7 @@ fn shorter(records: usize) -> Vec<u8> {
 fn number(sheet: &[u8], given: &Given) -> Option<u8> {
     let mut area = vec![0; given.area.unwrap_or(0)];
     let answer: Answer<()> = match (given.area, given.k, given.set) {
+        (None, _, Some(set)) => library::shut_by(sheet, given.tariff, set, given.shut.unwrap_or(0)).map(|_| ()),
         (None, ..) => library::read_by(sheet, given.tariff).map(|_| ()),
         (_, Some(k), _) => library::limited_plan_by(sheet, given.tariff, k, &mut area).map(|_| ()),
         (_, _, Some(set)) => library::price_by(sheet, given.tariff, set, &mut area).map(|_| ()),

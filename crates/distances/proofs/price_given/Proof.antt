@@ -1,5 +1,5 @@
 -- `price_given` meets its contract: the arms of the `match` are the cases of `tariffReading`.
-use mathlib.Core.Path.{ap, _∙_}
+use mathlib.Core.Path.{_∙_}
 use Rattle.tariff.specs.Reading.{tariffReading}
 use Rattle.tariff.proofs.QuestionLaws.{read-accepted, read-refused, prices-fit}
 use Rattle.distances.specs.Priced.{underGiven}

@@ -1,6 +1,6 @@
 -- `read_by` meets its contract: the sheet of hauls is read, or the refusal handed on.
 use native.Mathlib.Omega.{arith}
-use mathlib.Core.Path.{sym, ap, subst, _∙_}
+use mathlib.Core.Path.{sym, subst, _∙_}
 use lib.Seq.{length-take-le}
 use Rattle.questions.specs.Reading.{reading}
 use Rattle.distances.specs.Priced.{readingBy}

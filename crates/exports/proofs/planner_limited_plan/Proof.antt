@@ -1,8 +1,9 @@
 -- `planner_limited_plan` meets its contract: `search::limited_plan` does, and its answers keep to their bits.
 use mathlib.Core.Path.{sym, ap, subst, _∙_}
 use Rattle.search.specs.Promises.{OfSize, NoLimitedMove, BoundedByRivalsOf}
-use Rattle.exports.specs.Numbers.{resultNumber, KeepsBits}
-use Rattle.exports.proofs.NumberLaws.{limited-within, of-written}
+use Rattle.numbers.specs.Numbers.{resultNumber, KeepsBits}
+use Rattle.numbers.proofs.SaidLaws.{of-written}
+use Rattle.exports.proofs.NumberLaws.{limited-within}
 use borrow.Author.Needs.{needs}
 use Rattle.exports.proofs.planner_limited_plan.Statement.{statement}
 use Rattle.exports.proofs.planner_limited_plan.Tie as tie
@@ -10,8 +11,8 @@ use Rattle.exports.proofs.planner_limited_plan.Tie as tie
 limited-plan-requires : tie.Need-limited-plan-requires
 limited-plan-requires c κs = search needs
 
-number-requires : tie.Need-number-requires
-number-requires c κs = subst KeepsBits (sym (c .before .before .limited-plan .ensures .0)) (limited-within _ _ _)
+plan-number-requires : tie.Need-plan-number-requires
+plan-number-requires c κs = search needs
 
 same-length : tie.Need-same-length
 same-length c = search needs
@@ -22,14 +23,14 @@ returns c = let planned = c .before .before .before .limited-plan in
     let sheet = start .args .sheet .now in
     let area = planned .last .1 .1 .0 in
     let bits = subst KeepsBits (sym (planned .ensures .0)) (limited-within _ _ _) in (
-      c .number .ensures ∙ ap resultNumber (planned .ensures .0),
+      c .plan-number .ensures ∙ ap resultNumber (planned .ensures .0),
       (
         planned .ensures .1 .0,
         (
-          of-written _ area (OfSize sheet (start .args .k)) (planned .result) bits (c .number .ensures) (planned .ensures .1 .1 .0),
+          of-written _ area (OfSize sheet (start .args .k)) (planned .result) bits (c .plan-number .ensures) (planned .ensures .1 .1 .0),
           (
-            of-written _ area (NoLimitedMove sheet) (planned .result) bits (c .number .ensures) (planned .ensures .1 .1 .1 .0),
-            of-written _ area (BoundedByRivalsOf sheet (start .args .k)) (planned .result) bits (c .number .ensures) (planned .ensures .1 .1 .1 .1),
+            of-written _ area (NoLimitedMove sheet) (planned .result) bits (c .plan-number .ensures) (planned .ensures .1 .1 .1 .0),
+            of-written _ area (BoundedByRivalsOf sheet (start .args .k)) (planned .result) bits (c .plan-number .ensures) (planned .ensures .1 .1 .1 .1),
           ),
         ),
       ),
@@ -37,4 +38,4 @@ returns c = let planned = c .before .before .before .limited-plan in
 
 pub planner-limited-plan-spec : {M : Type 1} → statement M
 planner-limited-plan-spec =
-    tie.close (tie.spec limited-plan-requires number-requires same-length returns)
+    tie.close (tie.spec limited-plan-requires plan-number-requires same-length returns)

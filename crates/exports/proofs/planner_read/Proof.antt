@@ -1,7 +1,6 @@
 -- `planner_read` meets its contract: `sheet::read` does, and its counts keep to their bits.
-use mathlib.Core.Path.{sym, ap, subst, _∙_}
-use Rattle.exports.specs.Numbers.{countsNumber, CountsKeepBits}
-use Rattle.exports.proofs.NumberLaws.{counts-within}
+use mathlib.Core.Path.{ap, _∙_}
+use Rattle.numbers.specs.Numbers.{countsNumber}
 use borrow.Author.Needs.{needs}
 use Rattle.exports.proofs.planner_read.Statement.{statement}
 use Rattle.exports.proofs.planner_read.Tie as tie
@@ -10,7 +9,7 @@ read-requires : tie.Need-read-requires
 read-requires c κs = search needs
 
 counts-number-requires : tie.Need-counts-number-requires
-counts-number-requires c κs = subst CountsKeepBits (sym (c .read .ensures)) (counts-within _)
+counts-number-requires c κs = search needs
 
 returns : tie.Need-returns
 returns c = c .counts-number .ensures ∙ ap countsNumber (c .before .read .ensures)

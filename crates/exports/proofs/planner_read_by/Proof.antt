@@ -1,7 +1,6 @@
 -- `planner_read_by` meets its contract: `distances::read_by` does, and its counts keep to their bits.
-use mathlib.Core.Path.{sym, ap, subst, _∙_}
-use Rattle.exports.specs.Numbers.{countsNumber, CountsKeepBits}
-use Rattle.exports.proofs.NumberByLaws.{counts-by-within}
+use mathlib.Core.Path.{ap, _∙_}
+use Rattle.numbers.specs.Numbers.{countsNumber}
 use borrow.Author.Needs.{needs}
 use Rattle.exports.proofs.planner_read_by.Statement.{statement}
 use Rattle.exports.proofs.planner_read_by.Tie as tie
@@ -13,7 +12,7 @@ read-by-requires : tie.Need-read-by-requires
 read-by-requires c κs = search needs
 
 counts-number-requires : tie.Need-counts-number-requires
-counts-number-requires c κs = subst CountsKeepBits (sym (c .read-by .ensures)) (counts-by-within _ _ _)
+counts-number-requires c κs = search needs
 
 returns : tie.Need-returns
 returns c = rw (← c .before .before .choice-of .ensures) (c .counts-number .ensures ∙ ap countsNumber (c .before .read-by .ensures))

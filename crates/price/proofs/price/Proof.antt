@@ -17,8 +17,7 @@ enum-known-yards : tie.Need-enum-known-yards
 enum-known-yards c = search needs
 
 set-good-requires : tie.Need-set-good-requires
-set-good-requires c κs = let arm = c .before in
-    accepts _ _ _ (sym (arm .before .before .read .ensures) ∙ ap readingAnswer (arm .yards .given .1)) .has .few-yards
+set-good-requires c κs = search needs
 
 plan-fits-requires : tie.Need-plan-fits-requires
 plan-fits-requires c κs = search needs

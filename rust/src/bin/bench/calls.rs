@@ -5,7 +5,7 @@ use planner::samples::Sample;
 use planner::{Answer, Counts, Tariff, Written};
 
 /// Every second yard.
-const SIXTEEN_YARDS: u32 = 0x5555_5555;
+pub const SIXTEEN_YARDS: u32 = 0x5555_5555;
 pub const OPEN_PLAN: Call<'static> = Call::Plan(PlanCall::OpenPlan);
 pub const CALLS: [Call<'static>; 5] = [
     Call::Read,

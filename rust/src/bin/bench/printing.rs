@@ -1,10 +1,10 @@
 //! The lines that the benchmark prints.
-use crate::calls::Call;
+use crate::calls::{Call, SIXTEEN_YARDS};
 use crate::timing::{time, OnSheet, LONG_PASSES, PASSES};
 use planner::calls::{Calls, ALL};
 use planner::format::MOST_YARDS;
 use planner::samples::Sample;
-use planner::{four_loops, library};
+use planner::{four_loops, library, literal, Tariff};
 use std::hint::black_box;
 
 pub fn print_heading(title: &str) {
@@ -47,6 +47,27 @@ pub fn print_four_loops(inputs: &[Sample]) -> Result<(), String> {
     let [ours, loops] = [0, 1].map(|of| mean(&times, of));
     println!("\nQuestion 6 alone by four loops in plain Rust, on a table already read, over the whole of our `read`:");
     println!("ours {ours:.2}, four loops {loops:.2}, four loops/ours {}", ratios(&times, 1, 0, 0));
+    Ok(())
+}
+
+/// Paper 5 of document 02: what shutting one yard of a set changes, against the price of the set. By prices it would take two.
+pub fn print_shut(inputs: &[Sample]) -> Result<(), String> {
+    let differs = |sheet: &[u8]| {
+        library::shut(sheet, SIXTEEN_YARDS, 0) != literal::shut_by(sheet, Tariff::None, SIXTEEN_YARDS, 0)
+    };
+    if let Some(input) = inputs.iter().find(|input| differs(&input.sheet)) {
+        return Err(format!("shutting a yard of {}: library and literal differ", input.name));
+    }
+    let shut = |at: usize, _: &mut [u8]| {
+        black_box(library::shut(black_box(&inputs[at].sheet), SIXTEEN_YARDS, 0)).ok();
+    };
+    let price = |at: usize, area: &mut [u8]| {
+        black_box(library::price(black_box(&inputs[at].sheet), SIXTEEN_YARDS, area)).ok();
+    };
+    let times = time([(&shut as OnSheet, PASSES), (&price, PASSES)], inputs.len());
+    let [shut, price] = [0, 1].map(|of| mean(&times, of));
+    println!("\nWhat shutting one yard of 16 changes, over our price of the 16:");
+    println!("shut {shut:.2}, price {price:.2}, shut/price {}", ratios(&times, 0, 1, 2));
     Ok(())
 }
 

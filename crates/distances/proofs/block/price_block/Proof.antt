@@ -1,7 +1,7 @@
 -- `block::price_block` meets its contract: the distances are taken, priced, and their hauls put.
 use borrow.Author.Tests.{not-false}
 use Rattle.tariff.specs.Bounds.{block}
-use mathlib.Core.Path.{_≡_, refl, sym, ap, _∙_}
+use mathlib.Core.Path.{_≡_, refl, sym}
 use native.Mathlib.Omega.{arith}
 use lib.ListN.{length}
 use Rattle.model.proofs.Bools.{said-no, said-yes, clash}

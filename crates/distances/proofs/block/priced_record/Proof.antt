@@ -1,5 +1,5 @@
 -- `block::priced_record` meets its contract: a haul record gets the haul, any other keeps its amount.
-use mathlib.Core.Path.{_≡_, sym, ap, _∙_}
+use mathlib.Core.Path.{sym, ap, _∙_}
 use mathlib.Core.Logic.{inl, inr}
 use Rattle.record.specs.Records.{recordOf}
 use Rattle.distances.proofs.PricedLaws.{priced-haul, priced-other}

@@ -1,12 +1,11 @@
 -- `block::put_block` meets its contract. The invariant: the records passed stand, priced, one behind the other.
-use mathlib.Core.Path.{_≡_, refl, ap, subst, _∙_}
+use mathlib.Core.Path.{_≡_, ap, subst, _∙_}
 use Prim.Native.Nat.{ℕ, _+_, _*_, _≤_, _-_}
 use native.Mathlib.Omega.{arith}
-use lib.ListN.{length, getD}
+use lib.ListN.{length}
 use Rattle.model.specs.Loops.{join}
 use Rattle.record.specs.Records.{splice}
 use Rattle.record.proofs.WriteLaws.{put-one, PutSoFar, filled-none, filled-more}
-use Rattle.tariff.specs.Bounds.{mostBands}
 use Rattle.tariff.specs.Pricing.{priceOf}
 use Rattle.distances.specs.Priced.{pricedAt}
 use Rattle.distances.specs.Blocks.{pricedFrom}

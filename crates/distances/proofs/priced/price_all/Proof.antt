@@ -1,8 +1,8 @@
 -- `priced::price_all` meets its contract. The invariant: the records passed stand priced at the front, and no distance of theirs is past the reach.
 use borrow.Author.Tests.{not-false}
-use mathlib.Core.Path.{_≡_, refl, sym, ap, _∙_}
+use mathlib.Core.Path.{_≡_, refl, sym, _∙_}
 use mathlib.Core.Bool.{true}
-use Prim.Native.Nat.{ℕ, _+_, _*_, _≤_, _-_}
+use Prim.Native.Nat.{_≤_, _-_}
 use native.Mathlib.Omega.{arith}
 use lib.ListN.{length}
 use Rattle.model.specs.Loops.{allBelow, join}

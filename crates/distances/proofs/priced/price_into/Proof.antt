@@ -1,9 +1,8 @@
 -- `priced::price_into` meets its contract: each `return` is a case of `pricedBy`.
 use mathlib.Core.Path.{_≡_, sym, ap, _∙_}
 use native.Mathlib.Omega.{arith}
-use Prim.Native.Nat.{ℕ, _*_}
+use Prim.Native.Nat.{_*_}
 use lib.ListN.{length}
-use Rattle.model.specs.Answers.{accepted}
 use Rattle.record.specs.Records.{records}
 use Rattle.questions.specs.Reading.{readingAnswer}
 use Rattle.tariff.specs.Pricing.{priceOf}

@@ -1,6 +1,6 @@
 -- `sheet_tables::amount_at` meets its contract: the record is read as a part of the sheet.
 use mathlib.Core.Path.{refl}
-use Rattle.plan_area.proofs.NearestLaws.{part-amount}
+use Rattle.record.proofs.RecordLaws.{part-amount}
 use borrow.Author.Needs.{needs}
 use Rattle.search.proofs.sheet_tables.amount_at.Statement.{statement}
 use Rattle.search.proofs.sheet_tables.amount_at.Tie as tie

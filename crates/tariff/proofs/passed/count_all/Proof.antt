@@ -1,10 +1,9 @@
 -- `passed::count_all` meets its contract. The invariant: the ends passed are counted.
 use mathlib.Core.Path.{_≡_, refl, _∙_}
-use Prim.Native.Nat.{ℕ, _≤_, _-_}
+use Prim.Native.Nat.{_≤_, _-_}
 use native.Mathlib.Omega.{arith}
 use lib.ListN.{length}
 use Rattle.tariff.specs.Passed.{Counted}
-use borrow.Author.Needs.{needs}
 use Rattle.tariff.proofs.passed.count_all.Statement.{statement}
 use Rattle.tariff.proofs.passed.count_all.Tie as tie
 

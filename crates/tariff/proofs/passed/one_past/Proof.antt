@@ -1,6 +1,4 @@
 -- `passed::one_past` meets its contract: the two ways of the branch are those of the test.
-use Rattle.model.specs.Loops.{on}
-use mathlib.Core.Path.{ap, sym}
 use borrow.Author.Tests.{lt-ltb, le-ltb}
 use Rattle.tariff.proofs.passed.one_past.Statement.{statement}
 use Rattle.tariff.proofs.passed.one_past.Tie as tie

@@ -1,0 +1,2 @@
+-- MarkedCases: one table of calls and answers.
+pub mod MarkedCases

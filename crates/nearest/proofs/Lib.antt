@@ -1,0 +1,2 @@
+-- ChoiceLaws: how the loop over the listed yards keeps the nearest.
+pub mod ChoiceLaws
