@@ -1,6 +1,6 @@
 // The calls of the planner for Rust and C, as `include/planner.h` declares them.
 //
-// Each hands its arguments on to `sheet`, `price` or `search` or, by a tariff, to `distances`, `price_by`, `shut_by` or `by_tariff`, and gives the answer as
+// Each hands its arguments on to `sheet`, `stretch`, `price` or `search` or, by a tariff, to `distances`, `price_by`, `shut_by` or `by_tariff`, and gives the answer as
 // one number by `numbers`: bits 0 to 7 the refusal number, 0 where the call is accepted, and above them what the call returns. A refused call gives its
 // number alone. Every call is total.
 //
@@ -9,7 +9,7 @@
 ghost use mathlib.Core.Path.{_≡_};
 ghost use lib.ListN.{length, getD};
 ghost use Rattle.questions.specs.Reading.{reading};
-ghost use Rattle.sheet.specs.Stretch.{farmHauls, farmFrom, HaulsFrom};
+ghost use Rattle.stretch.specs.Stretch.{farmHauls, farmFrom, HaulsFrom};
 ghost use Rattle.distances.specs.Priced.{sheetBy, readingBy, OnHauls};
 ghost use Rattle.price.specs.Pricing.{answer, areaAfter, pricing};
 ghost use Rattle.price_by.specs.PricingBy.{pricingBy};
@@ -33,18 +33,16 @@ pub extern "C" fn planner_read(sheet: &[u8]) -> u64
 pub extern "C" fn planner_farm_len(sheet: &[u8], farm: usize) -> usize
     ensures { λ r. ⌜ r ≡ length (farmHauls (now (sheet .entry)) farm) ⌝ }
 {
-    sheet::farm_hauls(sheet, farm).len()
+    stretch::farm_len(sheet, farm)
 }
 
-// Where in the sheet a farm's stretch begins; 0 where it is empty. So many bytes for the yards come before it, and so many for each farm
-// before this one.
+// Where in the sheet a farm's stretch begins; 0 where it is empty.
 #[no_mangle]
 pub extern "C" fn planner_farm_from(sheet: &[u8], farm: usize) -> usize
     ensures from { λ r. ⌜ r ≡ farmFrom (now (sheet .entry)) farm ⌝ }
     ensures hauls { λ r. ⌜ HaulsFrom (now (sheet .entry)) farm r ⌝ }
 {
-    let bytes = sheet::farm_hauls(sheet, farm).len();
-    bytes + farm * bytes
+    stretch::farm_from(sheet, farm)
 }
 
 // Byte `at` of a farm's stretch, 0 past its end.
@@ -52,8 +50,7 @@ pub extern "C" fn planner_farm_from(sheet: &[u8], farm: usize) -> usize
 pub extern "C" fn planner_farm_byte(sheet: &[u8], farm: usize, at: usize) -> u8
     ensures { λ r. ⌜ r ≡ getD (farmHauls (now (sheet .entry)) farm) at 0 ⌝ }
 {
-    let hauls = sheet::farm_hauls(sheet, farm);
-    if at < hauls.len() { hauls[at] } else { 0 }
+    stretch::farm_byte(sheet, farm, at)
 }
 
 // Prices a set of yards, of which bit i marks yard i, and writes its plan to the front of the area.

@@ -83,7 +83,7 @@ module _ (fees hauls : List ℕ) where
 
   -- the second is the nearest of the set without the first
   pub second-after : (set first : ℕ) → first ≡ nearestOn fees hauls set .yard → nearestOn fees hauls (without set first) ≡ secondOn fees hauls set
-  unfolding secondOn second secondCost nearestIn
+  unfolding secondOn second secondCost nearestIn oneFarm
   second-after set first e =
       near-cong (member (without set first)) (others (oneFarm fees hauls) (member set) 0)
       (λ i l. member-without set first i ∙ ap (λ f. minus (member set) f i) e)

@@ -35,8 +35,10 @@ nearestIn fees hauls S = near (any (yardsOn fees hauls) S) (assigned (oneFarm fe
 abbrev pub nearestOn : List ℕ → List ℕ → ℕ → Nearest
 nearestOn fees hauls set = nearestIn fees hauls (member set)
 
--- its second yard of the set; not found where the set has no other of these yards
+-- the second facility of a client and its service cost; not found where S has no other
+abbrev pub secondIn : Instance → (ℕ → Bool) → ℕ → Nearest
+secondIn I S j = near (any (I .facilities) (others I S j)) (second I S j) (secondCost I S j)
+
+-- the farm's second yard of the set
 unfoldable pub secondOn : List ℕ → List ℕ → ℕ → Nearest
-secondOn fees hauls set =
-    near (any (yardsOn fees hauls) (others (oneFarm fees hauls) (member set) 0)) (second (oneFarm fees hauls) (member set) 0)
-    (secondCost (oneFarm fees hauls) (member set) 0)
+secondOn fees hauls set = secondIn (oneFarm fees hauls) (member set) 0

@@ -16,9 +16,9 @@ use Rattle.record.specs.Records.{amountAt}
 use Rattle.questions.specs.Bounds.{mostYards}
 use Rattle.questions.specs.Sheet.{fee, haul, instanceBy}
 use Rattle.questions.specs.Shape.{Shape}
-use Rattle.sheet.specs.Stretch.{stretch}
-use Rattle.sheet.proofs.FarmLaws.{stretch-length, stretch-record}
-use Rattle.nearest.specs.Nearest.{near, yardsOn, oneFarm, nearestIn, nearestOn, secondOn}
+use Rattle.stretch.specs.Stretch.{stretch}
+use Rattle.stretch.proofs.FarmLaws.{stretch-length, stretch-record}
+use Rattle.nearest.specs.Nearest.{yardsOn, oneFarm, nearestIn, nearestOn, secondIn, secondOn}
 use Rattle.nearest.proofs.ChoiceLaws.{near-cong}
 
 module _ (s : List ℕ) (m n p : ℕ) (f : Shape s m n) (below : p < n) where
@@ -55,9 +55,8 @@ module _ (s : List ℕ) (m n p : ℕ) (f : Shape s m n) (below : p < n) where
     farm-yard-small = omega (arith, farm-yard, assigned-le (instanceBy s m n) S p, f .few-yards)
 
   -- the second yard
-  pub farm-second : (set : ℕ) → secondOn s (stretch s m p) set
-      ≡ near (any m (others (instanceBy s m n) (member set) p)) (second (instanceBy s m n) (member set) p) (secondCost (instanceBy s m n) (member set) p)
-  unfolding secondOn second secondCost nearestIn
+  pub farm-second : (set : ℕ) → secondOn s (stretch s m p) set ≡ secondIn (instanceBy s m n) (member set) p
+  unfolding secondOn second secondCost nearestIn oneFarm instanceBy
   farm-second set =
       let hauls = stretch s m p in
       let others-are = ap (λ a. nearestIn s hauls (minus (member set) a)) (farm-yard (member set)) in

@@ -19,9 +19,9 @@ use Rattle.record.specs.declared.Record.{Record}
 use Rattle.questions.specs.Bounds.{mostYards, mostFarms}
 use Rattle.questions.specs.Sheet.{fee, loadsByte, farmByte, loadsOf, instanceBy}
 use Rattle.questions.specs.Shape.{Shape}
-use Rattle.sheet.specs.Stretch.{stretch}
+use Rattle.stretch.specs.Stretch.{stretch}
 use Rattle.record.proofs.RecordLaws.{whole}
-use Rattle.sheet.proofs.FarmLaws.{stretch-length, stretch-record}
+use Rattle.stretch.proofs.FarmLaws.{stretch-length, stretch-record}
 use Rattle.record.proofs.SpliceLaws.{length-bytes, splice-turn}
 use Rattle.nearest.specs.declared.Nearest.{Nearest}
 use Rattle.plan_area.specs.declared.plan.Total.{Total}

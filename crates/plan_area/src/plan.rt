@@ -13,9 +13,9 @@ ghost use Rattle.questions.specs.Bounds.{mostYards, mostFarms};
 ghost use Rattle.questions.specs.Sheet.{fee, farmByte, loadsOf, instanceBy};
 ghost use Rattle.questions.specs.Shape.{Shape};
 ghost use Rattle.plan_area.specs.Plan.{totalKind, openRecord, farmRecord, movesRecord, totalAmount, planFits, writing};
+use questions::MOST_FARMS;
+use questions::MOST_YARDS;
 use record::Record;
-use sheet::MOST_FARMS;
-use sheet::MOST_YARDS;
 
 pub const KIND_OPEN: u8 = 0x4F;
 
@@ -156,7 +156,7 @@ fn put_farm(
     ensures small { λ r. ⌜ r ≤ mostTerm ⌝ }
     ensures area { λ r. ⌜ now (area .exit) ≡ splice (now (area .entry)) at (farmRecord (instanceBy (now (sheet .entry)) m n) (farmByte (now (sheet .entry)) m) set farm) ⌝ }
 {
-    let hauls = sheet::farm_stretch(sheet, m, farm);
+    let hauls = stretch::farm_stretch(sheet, m, farm);
     let near = nearest::nearest_listed(sheet, hauls, yards);
     let byte3 = Record::at(hauls, 0).byte3;
     let record = Record::new(KIND_FARM, near.yard as u8, farm as u8, byte3, near.haul);

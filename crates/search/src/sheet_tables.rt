@@ -36,7 +36,7 @@ fn fill_row(sheet: &[u8], m: usize, n: usize, farm: usize, table: &mut [u32])
     requires { ⌜ (reading (now sheet) ≡ accepted (counts m n)) × (farm < n) × (n * m ≤ length (now table)) × Holds (loadedHaul (now sheet) m) (farm * m) (now table) ⌝ }
     ensures { λ _. ⌜ Holds (loadedHaul (now (sheet .entry)) m) (farm * m + m) (now (table .exit)) ⌝ }
 {
-    let hauls = sheet::farm_stretch(sheet, m, farm);
+    let hauls = stretch::farm_stretch(sheet, m, farm);
     let loads = questions::loads_of(Record::at(hauls, 0).byte3);
     let mut a = 0;
     while a < m {

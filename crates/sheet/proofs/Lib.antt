@@ -1,5 +1,3 @@
--- StretchLaws, FarmLaws: a farm's stretch. HaulLaws: the table of which question 6 is asked. ToldLaws: what the pass tells.
-pub mod StretchLaws
-pub mod FarmLaws
+-- HaulLaws: the table of which question 6 is asked. ToldLaws: what the pass tells.
 pub mod HaulLaws
 pub mod ToldLaws

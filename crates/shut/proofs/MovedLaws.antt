@@ -15,7 +15,7 @@ use Rattle.record.specs.Records.{wholeRecordAt}
 use Rattle.record.specs.declared.Record.{Record}
 use Rattle.questions.specs.Sheet.{farmByte, loadsOf, instanceBy}
 use Rattle.questions.specs.Shape.{Shape}
-use Rattle.sheet.specs.Stretch.{stretch}
+use Rattle.stretch.specs.Stretch.{stretch}
 use Rattle.nearest.specs.declared.Nearest.{Nearest}
 use Rattle.nearest.specs.Nearest.{nearestIn, nearestOn}
 use Rattle.plan_area.proofs.FarmNearestLaws.{farm-listed, farm-yard, farm-haul}

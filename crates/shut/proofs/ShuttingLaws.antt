@@ -22,7 +22,7 @@ use Rattle.record.specs.declared.Record.{Record}
 use Rattle.questions.specs.Sheet.{instanceBy, instanceOf}
 use Rattle.questions.specs.Reading.{counts, reading}
 use Rattle.questions.proofs.AcceptedLaws.{shape-of, instance-is, accepts}
-use Rattle.sheet.specs.Stretch.{stretch}
+use Rattle.stretch.specs.Stretch.{stretch}
 use Rattle.nearest.specs.declared.Nearest.{Nearest}
 use Rattle.nearest.specs.Nearest.{near, secondOn}
 use Rattle.plan_area.proofs.FarmNearestLaws.{farm-second}

@@ -5,15 +5,14 @@ use mathlib.Core.Bool.{Bool, false, cond, _&&_}
 use mathlib.Core.List.{List}
 use lib.Dec.{leb, ltb}
 use lib.IntN.{ℤ, pos, _-ℤ_}
-use Rattle.model.specs.Least.{any}
 use Rattle.model.specs.Sets.{count, member, without}
 use Rattle.model.specs.Instance.{Instance, totalCost}
-use Rattle.model.specs.Closing.{others, second, secondCost, closingChange}
+use Rattle.model.specs.Closing.{closingChange}
 use Rattle.model.specs.Answers.{Answer, accepted, refused, ask, after}
 use Rattle.questions.specs.Sheet.{instanceOf}
 use Rattle.questions.specs.Reading.{reading}
 use Rattle.nearest.specs.declared.Nearest.{Nearest}
-use Rattle.nearest.specs.Nearest.{near}
+use Rattle.nearest.specs.Nearest.{near, secondIn}
 use Rattle.price.specs.Pricing.{question8}
 use Rattle.shut.specs.declared.SecondYard.{SecondYard}
 use Rattle.shut.specs.declared.SecondYard.the-variants as second-yard
@@ -29,10 +28,7 @@ secondAnswer (second-yard.Refused k) = refused k
 
 -- "Each farm's second cheapest open yard .. with the haul there, ties as in paper 1, or none where one is open"; a farm n or above has none.
 unfoldable pub secondOf : Instance → ℕ → ℕ → Nearest
-secondOf I set farm =
-    cond (ltb farm (I .clients))
-    (near (any (I .facilities) (others I (member set) farm)) (second I (member set) farm) (secondCost I (member set) farm))
-    (near false 0 0)
+secondOf I set farm = cond (ltb farm (I .clients)) (secondIn I (member set) farm) (near false 0 0)
 
 -- the call asks what reading asks, then 8
 unfoldable pub seconding : List ℕ → ℕ → ℕ → Answer Nearest

@@ -66,7 +66,7 @@ fn farm_moved(
     ensures elsewhere { λ r. ⌜ r .elsewhere ≡ farmElsewhere (now (sheet .entry)) m n set yard farm ⌝ }
     ensures small { λ r. ⌜ (r .there ≤ mostTerm) × (r .elsewhere ≤ mostTerm) ⌝ }
 {
-    let hauls = sheet::farm_stretch(sheet, m, farm);
+    let hauls = stretch::farm_stretch(sheet, m, farm);
     let first = nearest::nearest_listed(sheet, hauls, yards);
     if first.yard != yard {
         return HaulsMoved {

@@ -42,7 +42,7 @@ pub fn second(sheet: &[u8], set: u32, farm: usize) -> SecondYard
                     haul: 0,
                 };
             }
-            let hauls = sheet::farm_stretch(sheet, yards, farm);
+            let hauls = stretch::farm_stretch(sheet, yards, farm);
             let second = nearest::second_yard(sheet, hauls, set);
             SecondYard::Told {
                 found: second.found,

@@ -7,7 +7,7 @@ use native.Mathlib.Omega.{arith}
 use lib.ListN.{length, length-set}
 use borrow.Author.Needs.{needs}
 use Rattle.questions.proofs.AcceptedLaws.{accepts, shape-of}
-use Rattle.sheet.proofs.FarmLaws.{stretch-length}
+use Rattle.stretch.proofs.FarmLaws.{stretch-length}
 use Rattle.search.specs.SheetTables.{Holds, loadedHaul}
 use Rattle.search.proofs.SheetTableLaws.{in-rows, product-small, row-more}
 use Rattle.search.proofs.sheet_tables.fill_row.Statement.{statement}

@@ -5,10 +5,10 @@ use native.Mathlib.Nat.{add-sub-cancel-left}
 use Prim.Native.Nat.{ℕ, _+_, _*_}
 use lib.ListN.{take, drop}
 use Rattle.model.proofs.PlaceLaws.{few-places}
-use Rattle.sheet.proofs.StretchLaws.{stretch-is, no-such-yards, no-such-farm, too-short}
+use Rattle.stretch.proofs.StretchLaws.{stretch-is, no-such-yards, no-such-farm, too-short}
 use borrow.Author.Needs.{needs}
-use Rattle.sheet.proofs.farm_stretch.Statement.{statement}
-use Rattle.sheet.proofs.farm_stretch.Tie as tie
+use Rattle.stretch.proofs.farm_stretch.Statement.{statement}
+use Rattle.stretch.proofs.farm_stretch.Tie as tie
 
 slice-aggregate-result : tie.Need-slice-aggregate-result
 slice-aggregate-result c = search needs

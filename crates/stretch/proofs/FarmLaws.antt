@@ -16,8 +16,8 @@ use Rattle.model.specs.Answers.{Answer, accepted, refused}
 use Rattle.questions.specs.Sheet.{place, haul, loadsByte}
 use Rattle.questions.specs.Shape.{Shape}
 use Rattle.questions.specs.Reading.{Counts, counts, form}
-use Rattle.sheet.specs.Stretch.{stretch, stretchBy, farmHauls, fromBy, farmFrom, HaulsFrom}
-use Rattle.sheet.proofs.StretchLaws.{stretch-is}
+use Rattle.stretch.specs.Stretch.{stretch, stretchBy, farmHauls, fromBy, farmFrom, HaulsFrom}
+use Rattle.stretch.proofs.StretchLaws.{stretch-is}
 use Rattle.questions.proofs.AcceptedLaws.{has-form, shape-of}
 
 -- ---- for callers that have read the sheet

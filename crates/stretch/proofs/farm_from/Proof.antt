@@ -1,11 +1,11 @@
--- `planner_farm_from` meets its contract: a stretch tells by its length where it begins.
+-- `farm_from` meets its contract: a stretch tells by its length where it begins.
 use mathlib.Core.Path.{refl, ap}
 use native.Mathlib.Omega.{arith}
 use lib.ListN.{length}
-use Rattle.sheet.proofs.FarmLaws.{farm-begins}
+use Rattle.stretch.proofs.FarmLaws.{farm-begins}
 use borrow.Author.Needs.{needs}
-use Rattle.exports.proofs.planner_farm_from.Statement.{statement}
-use Rattle.exports.proofs.planner_farm_from.Tie as tie
+use Rattle.stretch.proofs.farm_from.Statement.{statement}
+use Rattle.stretch.proofs.farm_from.Tie as tie
 
 farm-hauls-requires : tie.Need-farm-hauls-requires
 farm-hauls-requires c κs = search needs
@@ -26,5 +26,5 @@ returns c = let start = c .before .before .args in
     let is = ap length (c .farm-hauls .ensures) in
     rw (is, ← b .by-length) (refl, b .hauls-there)
 
-pub planner-farm-from-spec : {M : Type 1} → statement M
-planner-farm-from-spec = tie.close (tie.spec farm-hauls-requires mul-result add-result returns)
+pub farm-from-spec : {M : Type 1} → statement M
+farm-from-spec = tie.close (tie.spec farm-hauls-requires mul-result add-result returns)

@@ -2,10 +2,10 @@
 use mathlib.Core.Path.{sym, ap, _∙_}
 use borrow.Author.Tests.{lt-ltb, le-ltb}
 use Rattle.questions.specs.Reading.{readingAnswer}
-use Rattle.sheet.specs.Stretch.{farmHauls}
+use Rattle.stretch.specs.Stretch.{farmHauls}
 use borrow.Author.Needs.{needs}
-use Rattle.sheet.proofs.farm_hauls.Statement.{statement}
-use Rattle.sheet.proofs.farm_hauls.Tie as tie
+use Rattle.stretch.proofs.farm_hauls.Statement.{statement}
+use Rattle.stretch.proofs.farm_hauls.Tie as tie
 
 form-of-requires : tie.Need-form-of-requires
 form-of-requires c κs = search needs

@@ -5,7 +5,7 @@ use mathlib.Core.List.{List, []}
 use borrow.Author.Tests.{le-leb, lt-leb, lt-ltb, le-ltb}
 use lib.ListN.{length, take, drop}
 use Rattle.questions.specs.Bounds.{mostYards, mostFarms}
-use Rattle.sheet.specs.Stretch.{stretch}
+use Rattle.stretch.specs.Stretch.{stretch}
 
 module _ (s : List ℕ) (m p : ℕ) where
   pub stretch-is : m ≤ mostYards → p < mostFarms → 8 * (m + p * m) + 8 * m ≤ length s → stretch s m p ≡ take (8 * m) (drop (8 * (m + p * m)) s)

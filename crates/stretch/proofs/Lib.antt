@@ -1,0 +1,3 @@
+-- StretchLaws, FarmLaws: a farm's stretch.
+pub mod StretchLaws
+pub mod FarmLaws

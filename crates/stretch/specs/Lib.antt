@@ -1,0 +1,2 @@
+-- Stretch: a farm's part of the sheet.
+pub mod Stretch
