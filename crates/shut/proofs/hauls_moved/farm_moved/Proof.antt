@@ -35,7 +35,7 @@ cast-t15 c = search needs
 mul-t16 : tie.Need-mul-t16
 mul-t16 c = let read = c .before .before in
     let near = read .before .before .before .before in
-    let small = loads-small _ (read .at .result .byte3) (near .nearest-listed .result .haul) (c .before .loads-of .ensures) (omega (arith, read .at .ok)) (omega (arith, near .nearest-listed .ok)) in
+    let small = loads-small _ _ (near .nearest-listed .result .haul) (c .before .loads-of .ensures) (omega (arith, read .at .ok)) (omega (arith, near .nearest-listed .ok)) in
     record { fits = lt-of-le-of-lt small (omega arith) }
 
 cast-t17 : tie.Need-cast-t17
@@ -44,7 +44,7 @@ cast-t17 c = search needs
 mul-t18 : tie.Need-mul-t18
 mul-t18 c = let read = c .before .before .before in
     let near = read .before in
-    let small = loads-small _ (read .at .result .byte3) (near .nearest-listed2 .result .haul) (c .before .before .loads-of .ensures) (omega (arith, read .at .ok)) (omega (arith, near .nearest-listed2 .ok)) in
+    let small = loads-small _ _ (near .nearest-listed2 .result .haul) (c .before .before .loads-of .ensures) (omega (arith, read .at .ok)) (omega (arith, near .nearest-listed2 .ok)) in
     record { fits = lt-of-le-of-lt small (omega arith) }
 
 returns-2 : tie.Need-returns-2
