@@ -24,7 +24,7 @@ use Rattle.sets.proofs.ListedLaws.{listed-all, listedUpTo, none-yet, at-end}
 use Rattle.record.specs.Records.{amountAt, amountEnd}
 use Rattle.nearest.specs.declared.Choice.{Choice}
 use Rattle.nearest.specs.Nearest.{near, yardsOn, oneFarm, nearestIn, nearestOn, secondOn}
-use Rattle.nearest.specs.Choices.{haulStep, choice, noChoice, choiceOf, AmountsFit, nearer}
+use Rattle.nearest.specs.Choices.{haulStep, noYard, lastKey, choice, noChoice, choiceOf, AmountsFit, nearer}
 
 -- ---- the order of two choices
 
@@ -93,7 +93,7 @@ module _ (fees hauls : List ℕ) where
   -- the choice is that of the nearest yard of S
   record Chosen (S : ℕ → Bool) (b : Choice) : Type 0 where
     choice-is : b ≡ choice (b .yard) (amountAt hauls (b .yard)) (amountAt fees (b .yard))
-    numbered : b .yard < 256
+    numbered : b .yard < noYard
     haul-fits : amountAt hauls (b .yard) < amountEnd
     fee-fits : amountAt fees (b .yard) < amountEnd
     nearest-is : LeastThen m S (amountAt hauls) (amountAt fees) (b .yard)
@@ -117,7 +117,7 @@ module _ (fees hauls : List ℕ) where
     passed-over above eb (inl k) =
         rw (k .choice-is, eb) (inl (record { choice-is = refl; none = any-cong m (plus S x) S (λ i l. rw (ne-eqb x i (λ q. omega arith))) ∙ k .none }))
     passed-over above eb (inr k) =
-        rw (eb, later-when (2 ^ 64 - 1) (a .key) 256 (a .yard) (omega (arith, ap (λ (c : Choice). c .key) (k .choice-is), k .haul-fits, k .fee-fits)) (omega (arith, k .numbered)))
+        rw (eb, later-when lastKey (a .key) noYard (a .yard) (omega (arith, ap (λ (c : Choice). c .key) (k .choice-is), k .haul-fits, k .fee-fits)) (omega (arith, k .numbered)))
         (inr (record {
           choice-is = k .choice-is;
           numbered = k .numbered;
@@ -127,7 +127,7 @@ module _ (fees hauls : List ℕ) where
               then-agree S (amountAt hauls) (amountAt fees) (plus S x) m (a .yard) (λ i l. rw (ne-eqb x i (λ q. omega arith))) (k .nearest-is);
         }))
 
-    module _ (within : x < m) (small : x < 256) (haul-fits : amountAt hauls x < amountEnd) (fee-fits : amountAt fees x < amountEnd)
+    module _ (within : x < m) (small : x < noYard) (haul-fits : amountAt hauls x < amountEnd) (fee-fits : amountAt fees x < amountEnd)
         (eb : b ≡ choice x (amountAt hauls x) (amountAt fees x)) where
       -- its choice, where x is the nearest of S with x
       chosen-of : LeastThen m (plus S x) (amountAt hauls) (amountAt fees) x → Chosen (plus S x) b
@@ -171,7 +171,7 @@ module _ (fees hauls : List ℕ) where
           yard-b = ap (λ (c : Choice). c .yard) eb
 
   -- a turn
-  pub next-listed : (yards : List ℕ) (t : ℕ) (a b r : Choice) → getD yards t 0 < 256 → b ≡ choiceOf fees hauls (getD yards t 0)
+  pub next-listed : (yards : List ℕ) (t : ℕ) (a b r : Choice) → getD yards t 0 < noYard → b ≡ choiceOf fees hauls (getD yards t 0)
       → AmountsFit fees hauls (getD yards t 0) → r ≡ nearer a b → Kept (listedUpTo yards t) a → Kept (listedUpTo yards (t + 1)) r
   unfolding choiceOf any
   next-listed yards t a b r small eb fits er k =
@@ -187,14 +187,14 @@ module _ (fees hauls : List ℕ) where
     all-of : nearestIn fees hauls (listedUpTo yards t) ≡ nearestIn fees hauls (listed yards)
     all-of = near-cong (listedUpTo yards t) (listed yards) (λ i l. at-end yards t i done)
 
-    pub none-found : b .yard ≡ 256 → Kept (listedUpTo yards t) b → near false 0 0 ≡ nearestIn fees hauls (listed yards)
+    pub none-found : b .yard ≡ noYard → Kept (listedUpTo yards t) b → near false 0 0 ≡ nearestIn fees hauls (listed yards)
     unfolding Kept nearestIn oneFarm
     none-found e (inl k) =
         let zeros = assigned-none (oneFarm fees hauls) (listedUpTo yards t) 0 (k .none) in
         rw (k .none, zeros .0, zeros .1) at all-of
     none-found e (inr k) = absurd (omega (arith, k .numbered))
 
-    pub one-found : (b .yard ≡ 256 → ⊥) → Kept (listedUpTo yards t) b → near true (b .yard) (b .key / haulStep) ≡ nearestIn fees hauls (listed yards)
+    pub one-found : (b .yard ≡ noYard → ⊥) → Kept (listedUpTo yards t) b → near true (b .yard) (b .key / haulStep) ≡ nearestIn fees hauls (listed yards)
     unfolding Kept nearestIn oneFarm
     one-found e (inl k) = absurd (e (ap (λ (c : Choice). c .yard) (k .choice-is)))
     one-found e (inr k) =

@@ -14,9 +14,16 @@ haulStep = 2 ^ 32
 abbrev pub choice : ℕ → ℕ → ℕ → Choice
 choice yard haul fee = record { yard = yard; key = haulStep * haul + fee }
 
+-- a yard's number is a byte, so that no yard has this one; no haul and fee come after the last key
+abbrev pub noYard : ℕ
+noYard = 2 ^ 8
+
+abbrev pub lastKey : ℕ
+lastKey = 2 ^ 64 - 1
+
 -- what comes after every choice of a yard
 abbrev pub noChoice : Choice
-noChoice = record { yard = 256; key = 2 ^ 64 - 1 }
+noChoice = record { yard = noYard; key = lastKey }
 
 unfoldable pub choiceOf : List ℕ → List ℕ → ℕ → Choice
 choiceOf fees hauls yard = cond (ltb yard (yardsOn fees hauls)) (choice yard (amountAt hauls yard) (amountAt fees yard)) noChoice

@@ -32,6 +32,7 @@ oneFarm fees hauls =
 unfoldable pub nearestIn : List ℕ → List ℕ → (ℕ → Bool) → Nearest
 nearestIn fees hauls S = near (any (yardsOn fees hauls) S) (assigned (oneFarm fees hauls) S 0) (nearest (oneFarm fees hauls) S 0)
 
+-- of a set that is a number
 abbrev pub nearestOn : List ℕ → List ℕ → ℕ → Nearest
 nearestOn fees hauls set = nearestIn fees hauls (member set)
 

@@ -4,7 +4,7 @@ ghost use mathlib.Core.Path.{_≡_};
 ghost use Prim.Native.Nat.{_<_, min};
 ghost use Rattle.sets.specs.Members.{listed};
 ghost use Rattle.nearest.specs.Nearest.{nearestIn, nearestOn, secondOn};
-ghost use Rattle.nearest.specs.Choices.{choiceOf, AmountsFit, nearer};
+ghost use Rattle.nearest.specs.Choices.{noYard, choiceOf, AmountsFit, nearer};
 use record::Record;
 
 // A haul and a fee stand in one number: the haul times this, and the fee.
@@ -78,7 +78,7 @@ pub fn nearest_listed(fees: &[u8], hauls: &[u8], yards: &[u8]) -> Nearest
 // The choice of a yard, or of none where the yard has not both records.
 fn choice_of(fees: &[u8], hauls: &[u8], yard: u8) -> Choice
     ensures choice { λ r. ⌜ r ≡ choiceOf (now (fees .entry)) (now (hauls .entry)) yard ⌝ }
-    ensures small { λ r. ⌜ (yard < 256) × AmountsFit (now (fees .entry)) (now (hauls .entry)) yard ⌝ }
+    ensures small { λ r. ⌜ (yard < noYard) × AmountsFit (now (fees .entry)) (now (hauls .entry)) yard ⌝ }
 {
     let at = yard as usize;
     if lesser(fees.len(), hauls.len()) / Record::LEN <= at {

@@ -18,9 +18,11 @@ use Rattle.model.proofs.AnswerLaws.{same-result, asked, passed-first}
 use Rattle.model.proofs.SetLaws.{without-le}
 use Rattle.model.proofs.CostLaws.{Assigned, assigned-none}
 use Rattle.model.proofs.ClosingLaws.{no-other, some-other, second-least, second-in, second-cost}
+use Rattle.record.specs.Records.{amountEnd}
 use Rattle.questions.specs.Sheet.{yards, farmByte, instanceOf}
 use Rattle.questions.specs.Reading.{reading}
-use Rattle.questions.proofs.AcceptedLaws.{facilities-read}
+use Rattle.questions.proofs.AcceptedLaws.{door, facilities-read}
+use Rattle.questions.proofs.CostBounds.{total-fits}
 use Rattle.nearest.specs.declared.Nearest.{Nearest}
 use Rattle.nearest.specs.Nearest.{near}
 use Rattle.plan_area.specs.Plan.{question9}
@@ -94,12 +96,13 @@ still-marked m set yard q h =
     let small = ltb-true set (2 ^ m) (and-right (leb 1 set) _ q) in
     and-both (and-right (member set yard) _ (left-over m set yard q ∙ h)) (lt-ltb (without set yard) (2 ^ m) (omega (arith, small, without-le set yard)))
 
--- where pricing writes the plan of the set it also writes that of the set without the yard, and the change is the difference of the two totals
+-- where pricing writes the plan of the set it also writes that of the set without the yard, and the change is the difference of the two
+-- totals, which the four bytes of an amount hold
 pub shut-prices : (s : List ℕ) (set yard : ℕ) (change : ℤ) → shutting s set yard ≡ accepted change
     → (room : ℕ) (p : Plan) → pricing s set room ≡ accepted p
     → (open-total : ℕ) × (shut-total : ℕ) × (p ≡ plan (instanceOf s) (farmByte s (yards s)) set open-total 0)
     × (pricing s (without set yard) room ≡ accepted (plan (instanceOf s) (farmByte s (yards s)) (without set yard) shut-total 0))
-    × (change ≡ pos shut-total -ℤ pos open-total)
+    × (open-total < amountEnd) × (shut-total < amountEnd) × (change ≡ pos shut-total -ℤ pos open-total)
 unfolding pricing
 shut-prices s set yard change e room p h =
     let c = shut-passed s set yard change e in
@@ -108,5 +111,7 @@ shut-prices s set yard change e room p h =
       totalCost (instanceOf s) (member (without set yard)),
       sym (same-result (ninth .1)),
       priced-plan s (without set yard) room (c .yards-read) (c .farms-read) (c .read) (still-marked (c .yards-read) set yard (c .marked) (c .can-shut)) (ninth .0),
+      total-fits (instanceOf s) (door s (c .yards-read) (c .farms-read) (c .read)) (member set),
+      total-fits (instanceOf s) (door s (c .yards-read) (c .farms-read) (c .read)) (member (without set yard)),
       is-difference s set yard (Cents change) (sym e) change refl,
     )
