@@ -1,22 +1,24 @@
 /*
- * The yard planner for C: reads haul sheets, prices sets of yards, tells what shutting a yard changes, makes open and limited plans, from
- * hauls or from distances by a tariff (document 01 with papers 1, 2, 3 and 5 of document 02).
+ * The yard planner for C: reads haul sheets, prices sets of yards, tells what shutting a yard changes, makes open and limited plans, and
+ * sums offers to a floor under all lists, from hauls or from distances by a tariff (document 01 with papers 1, 2, 3, 5 and 10 of document
+ * 02).
  *
  * Link target/staticlib/libexports.a, which `rt staticlib exports` proves and writes (x86-64; it needs memcpy and memset and nothing else).
  * What each call promises is its contract in crates/exports/src/lib.rt: its answer and the area after it for every input; that a priced
  * plan has the set given and a limited plan k yards; that the change on shutting a yard is the full cost of the set without it less that
- * of the set; and for both plans that no move lowers the cost and that no rival is far cheaper (an open plan costs at most three times a
- * rival's set, the hauls of a limited plan are at most five times those of a rival with as many yards or fewer; the rival carries the
- * same loads and pays by the same tariff).
+ * of the set; that the sum of accepted offers is at most the full cost of any non-empty set of yards; and for both plans that no move lowers
+ * the cost and that no rival is far cheaper (an open plan costs at most three times a rival's set, the hauls of a limited plan are at most
+ * five times those of a rival with as many yards or fewer; the rival carries the same loads and pays by the same tariff).
  *
- * Every call ends, whatever the bytes of the sheet and of the tariff, the set, k, the farm, the yard and the lengths are, and either gives
- * its whole result or refuses by the number of the first question that is answered no. The caller sees to three things that no proof
- * can: no pointer is NULL (also where its length is 0), as many bytes as the length says can be read, and in an area written, and an area
- * overlaps no sheet and no tariff. A sheet and a tariff are only read. No call keeps a pointer, allocates memory, or has a state of its
- * own: several threads may call at once, each with its own area.
+ * Every call ends, whatever the bytes of the sheet, of the tariff and of the offers, the set, k, the farm, the yard and the lengths are, and
+ * either gives its whole result or refuses by the number of the first question that is answered no. The caller sees to three things that no
+ * proof can: no pointer is NULL (also where its length is 0), as many bytes as the length says can be read, and in an area written, and an
+ * area overlaps no sheet and no tariff. A sheet, a tariff and offers are only read. No call keeps a pointer, allocates memory, or has a
+ * state of its own: several threads may call at once, each with its own area.
  *
- * A record has eight bytes, of which byte 0 is the kind. In a sheet and in a plan byte 1 is a yard number, byte 2 a farm number, byte 3 a
- * farm's loads, bytes 4 to 7 an amount in cents, lowest byte first. Numbers count from 0; bytes not named are zero. Kinds are hexadecimal.
+ * A record has eight bytes, of which byte 0 is the kind. In a sheet, in a plan and in offers byte 1 is a yard number, byte 2 a farm number,
+ * byte 3 a farm's loads, bytes 4 to 7 an amount in cents, lowest byte first. Numbers count from 0; bytes not named are zero. Kinds are
+ * hexadecimal.
  *
  *   kind   in a sheet of m yards and n farms, in this order
  *   59     for each yard: byte 1 the yard, the amount its fee
@@ -40,6 +42,9 @@
  *          plan without the fees)
  *   4D     once: the amount the moves made, 0 for pricing
  *
+ *   kind   in offers, n records in this order
+ *   56     for each farm: byte 2 the farm, the amount what it offers per load, any number of four bytes
+ *
  * Results of 64 bits. Bits 0 to 7: the refusal number, 0 where the call is accepted. A refused call gives its number alone, all
  * higher bits 0, and leaves the area as it was.
  *
@@ -56,6 +61,9 @@
  *      5     every fee is at most 50,000,000 and every haul, by a tariff the priced one, at most 1,000,000
  *      6     the four-point rule: haul(a, q) is at most haul(a, p) + haul(b, p) + haul(b, q), for all yards a, b and farms p, q; by a
  *            tariff it is about the priced hauls, which keep it where the distances do
+ *     15     offers: n whole records, each of kind 56 hex with the farm number of its place and with bytes 1 and 3 zero
+ *     16     offers: at every yard the loads times the excess of amount over haul, by a tariff the priced one, where positive, sum to at
+ *            most the fee
  *      7     limited plan: k is from 1 to m
  *      8     pricing, second yards and a yard that shuts: the set marks at least one yard and none numbered m or above
  *     14     a yard that shuts: the set marks it and another one
@@ -144,6 +152,15 @@ uint64_t planner_second(const uint8_t *sheet, size_t sheet_len, uint8_t hauls, c
 uint64_t planner_shut(const uint8_t *sheet, size_t sheet_len, uint8_t hauls, const uint8_t *tariff, size_t tariff_len, uint32_t set,
                       size_t yard);
 
+/*
+ * A floor under all lists: the sum over farms of loads times the amount offered, which is at most the full cost, fees and hauls, of any
+ * non-empty set of yards. `hauls` and `tariff` are those of the calls by a tariff. It is lent no area. Asks what planner_read_by asks, then 15
+ * of all records, then 16. Bits 8 to 63: the sum. Where a caller sets every fee of a copy of the sheet to one amount L, the sum of offers
+ * accepted on the copy is at most k times L and the hauls of any non-empty set of at most k yards.
+ */
+uint64_t planner_floor(const uint8_t *sheet, size_t sheet_len, uint8_t hauls, const uint8_t *tariff, size_t tariff_len,
+                       const uint8_t *offers, size_t offers_len);
+
 /* The parts of a result. */
 static inline unsigned planner_refusal(uint64_t result) { return (unsigned)(result & 0xFF); }
 static inline size_t planner_yards(uint64_t result) { return (size_t)(result >> 8 & 0xFF); }
@@ -158,6 +175,7 @@ static inline int64_t planner_change(uint64_t result)
     int64_t size = (int64_t)(result >> 16);
     return (result >> 8 & 1) != 0 ? -size : size;
 }
+static inline uint64_t planner_sum(uint64_t result) { return result >> 8; }
 
 #ifdef __cplusplus
 }

@@ -13,6 +13,8 @@ pub struct Calls {
     pub price_by: fn(&[u8], Tariff, u32, &mut [u8]) -> Answer<Written>,
     pub open_plan_by: fn(&[u8], Tariff, &mut [u8]) -> Answer<Written>,
     pub limited_plan_by: fn(&[u8], Tariff, usize, &mut [u8]) -> Answer<Written>,
+    /// Paper 10 of document 02, by a tariff or by none.
+    pub floor_by: fn(&[u8], Tariff, &[u8]) -> Answer<u64>,
 }
 
 pub const LIBRARY: Calls = Calls {
@@ -25,6 +27,7 @@ pub const LIBRARY: Calls = Calls {
     price_by: library::price_by,
     open_plan_by: library::open_plan_by,
     limited_plan_by: library::limited_plan_by,
+    floor_by: library::floor_by,
 };
 
 /// Each call without a tariff made through the one by a tariff, which is given none.
@@ -47,6 +50,7 @@ pub const LITERAL: Calls = Calls {
     price_by: literal::price_by,
     open_plan_by: literal::open_plan_by,
     limited_plan_by: literal::limited_plan_by,
+    floor_by: literal::floor_by,
 };
 
 /// With sums of 64 bits and distances priced by lines, as the library has them.
@@ -60,6 +64,7 @@ pub const FAST: Calls = Calls {
     price_by: fast::price_by::<u64>,
     open_plan_by: fast::open_plan_by::<u64>,
     limited_plan_by: fast::limited_plan_by::<u64>,
+    floor_by: fast::floor_by::<u64>,
 };
 
 /// With sums of 32 bits, and distances priced in numbers of 16 where they fit.
@@ -73,6 +78,7 @@ pub const FAST_32: Calls = Calls {
     price_by: fast::price_by::<u32>,
     open_plan_by: fast::open_plan_by::<u32>,
     limited_plan_by: fast::limited_plan_by::<u32>,
+    floor_by: fast::floor_by::<u32>,
 };
 
 pub const ALL: [Calls; 4] = [LIBRARY, LITERAL, FAST, FAST_32];

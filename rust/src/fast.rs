@@ -1,10 +1,11 @@
-//! The calls of document 01, with papers 1, 2 and 3 of document 02, as fast as plain Rust makes them. The planner's times are held
-//! against these.
+//! The calls of document 01, with papers 1, 2, 3 and 10 of document 02, as fast as plain Rust makes them. The planner's times are
+//! held against these.
 //!
 //! A sheet is read once into a table of fixed size. Question 6 takes two yards at a time, and a search keeps the costs of
 //! all moves and counts again only the farms that a move touches. Nothing is allocated, all numbers are whole, and the
 //! loops over yards or farms are laid out for the vector instructions that every x86-64 processor has.
 mod area;
+mod floor;
 mod loads;
 mod near;
 mod prices;
@@ -17,6 +18,7 @@ mod yards;
 
 use crate::format::least_area;
 use crate::{Answer, Counts, Tariff, Written};
+use floor::floor_of;
 use search::{limited_plan_of, open_plan_of};
 use sheet::Hauls;
 use sum::Sum;
@@ -77,6 +79,13 @@ pub fn limited_plan_by<S: Sum>(sheet: &[u8], tariff: Tariff, k: usize, area: &mu
     }
     large_enough(area, &hauls)?;
     Ok(limited_plan_of::<S>(&hauls, k, area))
+}
+
+/// The sum of the offers, by a tariff or by none.
+pub fn floor_by<S: Sum>(sheet: &[u8], tariff: Tariff, offers: &[u8]) -> Answer<u64> {
+    let mut hauls = Hauls::none();
+    hauls.read(sheet, tariff, S::PRICING)?;
+    floor_of(&hauls, offers)
 }
 
 /// Prices a set that question 8 accepts, in an area that question 9 accepts.

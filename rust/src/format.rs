@@ -1,5 +1,5 @@
-//! The records of sheets, plans and tariffs, and the bounds of document 01 and of papers 2 and 3 of document 02. `literal` has its
-//! own, and so have the tests of document 01's examples.
+//! The records of sheets, plans, tariffs and offers, and the bounds of document 01 and of papers 2 and 3 of document 02. `literal`
+//! has its own, and so have the tests of document 01's examples.
 
 /// The bytes of a record.
 pub const RECORD: usize = 8;
@@ -17,6 +17,9 @@ pub const MOVES: u8 = 0x4D;
 /// The kind of a tariff's records, and how many there are at most.
 pub const BAND: u8 = 0x42;
 pub const MOST_BANDS: usize = 16;
+
+/// The kind of an offer's record.
+pub const OFFER: u8 = 0x56;
 
 /// The house tariff: the end and the rate of each band.
 pub const HOUSE: [(u16, u16); 6] = [(100, 40), (250, 34), (500, 28), (1_000, 22), (2_000, 18), (4_000, 15)];
@@ -53,6 +56,11 @@ pub fn record_with_loads(kind: u8, yard: usize, farm: usize, loads: u8, amount: 
 pub fn band(number: usize, start: u16, end: u16, rate: u16) -> [u8; RECORD] {
     let [[a, b], [c, d], [e, f]] = [start, end, rate].map(u16::to_le_bytes);
     [BAND, number as u8, a, b, c, d, e, f]
+}
+
+/// The offers of these amounts, one per farm from farm 0 on.
+pub fn offers(amounts: &[u32]) -> Vec<u8> {
+    amounts.iter().enumerate().flat_map(|(farm, &amount)| record(OFFER, 0, farm, amount)).collect()
 }
 
 /// The amount of a record, which has all its bytes.

@@ -1,5 +1,5 @@
-//! The yard planner for Rust (`library`), and what it is held against: the whole of document 01, with papers 1, 2, 3 and 5 of
-//! document 02, a second time (`literal`), all but paper 5 as fast as plain Rust makes it (`fast`), all side by side (`calls`),
+//! The yard planner for Rust (`library`), and what it is held against: the whole of document 01, with papers 1, 2, 3, 5 and 10
+//! of document 02, a second time (`literal`), all but paper 5 as fast as plain Rust makes it (`fast`), all side by side (`calls`),
 //! question 6 alone by its four loops (`four_loops`), and sheets of every kind (`samples`). `csv`, `words` and `bands`, a tariff as
 //! its bands, are the tool `sheet`. `format`, `table` and `random` serve the others: the format's constants, a sheet as a table,
 //! seeded numbers.

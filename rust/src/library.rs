@@ -78,6 +78,15 @@ mod raw {
             set: u32,
             yard: usize,
         ) -> u64;
+        pub fn planner_floor(
+            sheet: *const u8,
+            sheet_len: usize,
+            hauls: u8,
+            tariff: *const u8,
+            tariff_len: usize,
+            offers: *const u8,
+            offers_len: usize,
+        ) -> u64;
     }
 }
 
@@ -133,6 +142,12 @@ pub fn shut(sheet: &[u8], set: u32, yard: usize) -> Answer<i64> {
     shut_by(sheet, Tariff::None, set, yard)
 }
 
+/// The sum of loads times amounts of offers, one amount per farm: at most the full cost of any non-empty set of yards. 15 where the
+/// records are broken or not one per farm in order, 16 where a yard is overbid.
+pub fn floor(sheet: &[u8], offers: &[u8]) -> Answer<u64> {
+    floor_by(sheet, Tariff::None, offers)
+}
+
 /// `read` on a sheet of distances by a tariff, which is asked 11 and 12 ahead of question 1; 13 comes just before 5.
 pub fn read_by(sheet: &[u8], tariff: Tariff) -> Answer<Counts> {
     let (hauls, tariff) = told(tariff);
@@ -177,6 +192,13 @@ pub fn shut_by(sheet: &[u8], tariff: Tariff, set: u32, yard: usize) -> Answer<i6
     change(unsafe { raw::planner_shut(from, length, hauls, bands, bands_length, set, yard) })
 }
 
+/// `floor` on a sheet of distances by a tariff: offers are held against the priced hauls.
+pub fn floor_by(sheet: &[u8], tariff: Tariff, offers: &[u8]) -> Answer<u64> {
+    let (hauls, tariff) = told(tariff);
+    let (from, length, bands, bands_length) = (sheet.as_ptr(), sheet.len(), tariff.as_ptr(), tariff.len());
+    sum(unsafe { raw::planner_floor(from, length, hauls, bands, bands_length, offers.as_ptr(), offers.len()) })
+}
+
 /// The number that tells a call what the amounts of haul records are, and the tariff's bytes, which count for a given one alone.
 fn told(tariff: Tariff<'_>) -> (u8, &[u8]) {
     match tariff {
@@ -218,4 +240,10 @@ fn change(result: u64) -> Answer<i64> {
     accepted(result)?;
     let size = (result >> 16) as i64;
     Ok(if result >> 8 & 1 == 1 { -size } else { size })
+}
+
+/// Bits 8 to 63: the sum.
+fn sum(result: u64) -> Answer<u64> {
+    accepted(result)?;
+    Ok(result >> 8)
 }

@@ -1,5 +1,5 @@
 //! A haul sheet as a table of fees, hauls and loads, before it is written as bytes.
-use crate::format::{record, record_with_loads, HAUL, YARD};
+use crate::format::{amount, record, record_with_loads, HAUL, RECORD, YARD};
 
 #[derive(Clone, Debug, PartialEq, Eq)]
 pub struct Table {
@@ -26,6 +26,23 @@ impl Table {
     /// Equal fees and equal hauls.
     pub fn even(yards: usize, farms: usize, fee: u32, haul: u32) -> Table {
         Table::new(vec![fee; yards], vec![vec![haul; yards]; farms])
+    }
+
+    /// The table of a sheet of good form with so many yards.
+    pub fn of_sheet(sheet: &[u8], yards: usize) -> Table {
+        let amounts = |records: &[u8]| records.chunks(RECORD).map(amount).collect();
+        let (fees, farms) = sheet.split_at(RECORD * yards);
+        let farms = || farms.chunks(RECORD * yards);
+        Table {
+            fees: amounts(fees),
+            hauls: farms().map(amounts).collect(),
+            loads: farms().map(|hauls| hauls[3]).collect(),
+        }
+    }
+
+    /// A farm's loads, of which 0 is read as 1.
+    pub fn loads_of(&self, farm: usize) -> u64 {
+        self.loads[farm].max(1).into()
     }
 
     /// The records of the sheet, yards first, then each farm's hauls.

@@ -1,10 +1,11 @@
 //! The examples of document 01, section "Marked sheets and others", and its questions one by one, put to every implementation;
-//! the example of paper 1 of document 02, on equal hauls, the numbers of its paper 2, on loads, and paper 5 on the same sheets.
+//! the example of paper 1 of document 02, on equal hauls, the numbers of its paper 2, on loads, and papers 5 and 10 on the same sheets.
 mod checks;
 
 use checks::{
-    check_plan, check_read, check_refused, check_seconds, check_sheet_refused, check_shut, even_sheet, plan, record,
-    sheet, sheet_s, with_farm_byte, with_loads, AMPLE, HAUL, HIGHEST_FEE, HIGHEST_HAUL, MOST_LOADS, YARD,
+    check_floor, check_plan, check_read, check_refused, check_seconds, check_sheet_refused, check_shut, even_sheet,
+    offers, plan, record, sheet, sheet_s, with_farm_byte, with_loads, AMPLE, HAUL, HIGHEST_FEE, HIGHEST_HAUL,
+    MOST_LOADS, YARD,
 };
 use planner::calls::PlanCall as Call;
 
@@ -184,6 +185,27 @@ fn second_yards_and_shut_yards_of_s() {
         check_shut(&s, 0b1111, yard, Err(8));
     }
     check_shut(&s, 0, 0, Err(8));
+}
+
+/// The offers 2, 5 and 3 have an excess of 1, 4 and 2 at the yards, their fees: 10 is what all yards cost, and no set costs less.
+#[test]
+fn floors_of_s() {
+    let s = sheet_s();
+    for (amounts, answer) in [([2, 5, 3], Ok(10)), ([2, 4, 3], Ok(9)), ([0, 0, 0], Ok(0))] {
+        check_floor(&s, &offers(&amounts), answer);
+    }
+    for amounts in [[3, 5, 3], [2, 6, 3], [2, 5, 4], [u32::MAX; 3]] {
+        check_floor(&s, &offers(&amounts), Err(16));
+        for at in [0, 1, 2, 3, 8, 9, 10, 11, 16, 17, 18, 19] {
+            let mut broken = offers(&amounts);
+            broken[at] ^= 1;
+            check_floor(&s, &broken, Err(15));
+        }
+    }
+    let four = offers(&[2, 5, 3, 0]);
+    for length in (0..=32).filter(|&length| length != 24) {
+        check_floor(&s, &four[..length], Err(15));
+    }
 }
 
 /// The yards of paper 1: both cost 6 + 3, either alone its fee and 3. With a farm of 20 loads at yard 0 its haul counts twenty times.

@@ -57,8 +57,8 @@ const LEAST_OTHER_YARDS: u64 = 150;
 /// Refusals with 10 of each call where it is the only fault, beside question 5, and beside question 6.
 const LEAST_WITH_10: u64 = 40;
 
-/// Second yards and yards that shut, of each kind.
-const LEAST_SHUT: u64 = 500;
+/// Second yards, yards that shut and offers, of each kind.
+const LEAST_FACTS: u64 = 500;
 
 /// By tariffs: each answer of each call, each refusal beside another, and sheets or distances of each kind.
 const LEAST_BY: u64 = 20;
@@ -66,13 +66,14 @@ const LEAST_BY: u64 = 20;
 const LEAST_OF_BANDS: u64 = 15;
 
 /// The answers that each call can give, 0 for accepted; by a tariff 11, 12 and 13 too.
-const ANSWERS: [(Name, &[u8]); 6] = [
+const ANSWERS: [(Name, &[u8]); 7] = [
     (Name::Read, &[0, 1, 2, 3, 4, 10, 5, 6]),
     (Name::Price, &[0, 1, 2, 3, 4, 10, 5, 6, 8, 9]),
     (Name::OpenPlan, &[0, 1, 2, 3, 4, 10, 5, 6, 9]),
     (Name::LimitedPlan, &[0, 1, 2, 3, 4, 10, 5, 6, 7, 9]),
     (Name::Second, &[0, 1, 2, 3, 4, 10, 5, 6, 8]),
     (Name::Shut, &[0, 1, 2, 3, 4, 10, 5, 6, 8, 14]),
+    (Name::Floor, &[0, 1, 2, 3, 4, 10, 5, 6, 15, 16]),
 ];
 
 fn rounds() -> u64 {
@@ -270,8 +271,8 @@ fn enough(tally: &Tally, rounds: u64) {
         );
     }
     enough_loads(tally, rounds);
-    for (text, count) in tally.shut.facts() {
-        assert!(count >= rounds * LEAST_SHUT, "{text}: {count} only");
+    for (text, count) in tally.facts() {
+        assert!(count >= rounds * LEAST_FACTS, "{text}: {count} only");
     }
     assert!(tally.whole_stretches >= rounds * LEAST_STRETCHES, "{} whole stretches", tally.whole_stretches);
     assert!(tally.empty_stretches >= rounds * LEAST_STRETCHES, "{} empty stretches", tally.empty_stretches);
@@ -290,7 +291,7 @@ fn enough_by_tariffs(tally: &Tally, rounds: u64) {
     }
     let bands = tally.tariffs.bands();
     assert!(bands.iter().all(|&count| count >= rounds * LEAST_OF_BANDS), "accepted by count of bands: {bands:?}");
-    for (text, count) in tally.tariffs.facts().into_iter().chain(tally.shut.facts()) {
+    for (text, count) in tally.tariffs.facts().into_iter().chain(tally.facts()) {
         assert!(count >= rounds * LEAST_BY, "{text}: {count} only");
     }
     assert_eq!(tally.tariffs.only_hauls_break_rule, 0, "refused by 6 where the distances keep the rule");

@@ -1,5 +1,5 @@
 /* The planner from C: reads document 01's sheet S, prices {0, 2}, and makes both plans; open plans at the highest fee and haul and with
- * loads; the same calls by the house tariff and by a given one; and second yards and yards that shut. */
+ * loads; the same calls by the house tariff and by a given one; second yards and yards that shut; and offers. */
 #include "planner.h"
 
 #include <stdio.h>
@@ -41,6 +41,12 @@ static const uint8_t rising_tariff[16] = {0x42, 0, 0, 0, 200, 0, 10, 0, 0x42, 1,
 
 /* {0, 1, 2} and {0, 1} */
 static const uint32_t three_yards = 1u << 0 | 1u << 1 | 1u << 2, two_yards = 1u << 0 | 1u << 1;
+
+/* offers for S of 2, 5 and 3, which just meet all three fees */
+static const uint8_t offers[24] = {0x56, 0, 0, 0, 2, 0, 0, 0, 0x56, 0, 1, 0, 5, 0, 0, 0, 0x56, 0, 2, 0, 3, 0, 0, 0};
+
+/* offers for the distances of 4,780 and 4,300: by the house tariff hauls and fees 4,680 + 100 and 4,000 + 300 */
+static const uint8_t house_offers[16] = {0x56, 0, 0, 0, 0xAC, 0x12, 0, 0, 0x56, 0, 1, 0, 0xCC, 0x10, 0, 0};
 
 static uint8_t area[PLANNER_MOST_AREA];
 
@@ -157,6 +163,75 @@ static void show_shut_yards(void)
     show_change("shut 1 of {0, 1}, distances as hauls", planner_shut(distances, sizeof distances, hauls, tariff, 0, two_yards, 1));
 }
 
+/* A sum is read off a result only where the offers are accepted. */
+static void show_sum(const char *call, uint64_t result)
+{
+    if (planner_refusal(result) != 0)
+        printf("%s: refused %u\n", call, planner_refusal(result));
+    else
+        printf("%s: sum %llu\n", call, (unsigned long long)planner_sum(result));
+}
+
+/* The offers for S with another byte. */
+static void show_changed_offers(const char *call, size_t at, uint8_t byte)
+{
+    uint8_t changed[sizeof offers];
+    memcpy(changed, offers, sizeof offers);
+    changed[at] = byte;
+    show_sum(call, planner_floor(sheet, sizeof sheet, PLANNER_HAULS, tariff, 0, changed, sizeof changed));
+}
+
+/* A record with yard number 0. */
+static void put(uint8_t *record, uint8_t kind, uint8_t farm, uint8_t loads, uint32_t cents)
+{
+    const uint8_t bytes[8] = {
+        kind, 0, farm, loads, cents & 0xFF, cents >> 8 & 0xFF, cents >> 16 & 0xFF, cents >> 24 & 0xFF,
+    };
+    memcpy(record, bytes, sizeof bytes);
+}
+
+/* One yard at the highest fee, 128 farms of 20 loads at the highest haul. Farm 0 offers the fee too, 20 times 2,500,000: 50,000,000 and
+ * 128 times 20 times 1,000,000 together, the full cost of the yard. */
+static void show_largest_floor(void)
+{
+    static uint8_t largest[8 * (1 + 128)], of_largest[8 * 128];
+    put(largest, 0x59, 0, 0, 50000000);
+    for (uint8_t farm = 0; farm < 128; farm++) {
+        put(largest + 8 * (1 + farm), 0x48, farm, 20, 1000000);
+        put(of_largest + 8 * farm, 0x56, farm, 0, farm == 0 ? 3500000 : 1000000);
+    }
+    show_sum("floor, largest sum", planner_floor(largest, sizeof largest, PLANNER_HAULS, tariff, 0, of_largest, sizeof of_largest));
+    put(of_largest + 8 * 127, 0x56, 127, 0, 1000001);
+    show_sum("floor, one cent above it", planner_floor(largest, sizeof largest, PLANNER_HAULS, tariff, 0, of_largest, sizeof of_largest));
+    for (uint8_t farm = 0; farm < 128; farm++)
+        put(of_largest + 8 * farm, 0x56, farm, 0, 0xFFFFFFFF);
+    show_sum("floor, highest amounts", planner_floor(largest, sizeof largest, PLANNER_HAULS, tariff, 0, of_largest, sizeof of_largest));
+}
+
+/* Offers for S, and by tariffs for the distances; the sum is at most the total of every set, 10 for all yards of S. */
+static void show_floors(void)
+{
+    const size_t len = sizeof sheet, far = sizeof distances;
+    const uint8_t hauls = PLANNER_HAULS, house = PLANNER_HOUSE_TARIFF, given = PLANNER_GIVEN_TARIFF;
+    show_sum("floor of 2, 5, 3", planner_floor(sheet, len, hauls, tariff, 0, offers, sizeof offers));
+    show_changed_offers("floor of 2, 4, 3", 12, 4);
+    show_changed_offers("floor of 3, 5, 3", 4, 3);
+    show_changed_offers("floor of 2, 6, 3", 12, 6);
+    show_changed_offers("floor of 2, 5, 4", 20, 4);
+    show_changed_offers("floor, another kind", 8, 0x48);
+    show_changed_offers("floor, byte 1 not zero", 9, 1);
+    show_changed_offers("floor, another farm", 10, 2);
+    show_changed_offers("floor, byte 3 not zero", 11, 1);
+    show_sum("floor, no record", planner_floor(sheet, len, hauls, tariff, 0, offers, 0));
+    show_sum("floor, a record short", planner_floor(sheet, len, hauls, tariff, 0, offers, sizeof offers - 8));
+    show_sum("floor, a byte short", planner_floor(sheet, len, hauls, tariff, 0, offers, sizeof offers - 1));
+    show_sum("floor, sheet and offers a byte short", planner_floor(sheet, len - 1, hauls, tariff, 0, offers, sizeof offers - 1));
+    show_sum("floor by the house tariff", planner_floor(distances, far, house, tariff, 0, house_offers, sizeof house_offers));
+    show_sum("floor by the given tariff", planner_floor(distances, far, given, tariff, sizeof tariff, house_offers, sizeof house_offers));
+    show_sum("floor by half a tariff record", planner_floor(distances, far, given, tariff, 4, house_offers, 0));
+    show_largest_floor();
+}
+
 int main(void)
 {
     show_counts("read", planner_read(sheet, sizeof sheet));
@@ -174,5 +249,6 @@ int main(void)
     show_area_after_refusal();
     show_by_tariffs();
     show_shut_yards();
+    show_floors();
     return 0;
 }

@@ -1,2 +1,4 @@
--- MarkedCases: one table of calls and answers.
+-- MarkedCases: one table of calls and answers. CaseBytes: the bytes that it is written with. LimitedFloor: no single yard of sheet S hauls for less than 9.
+pub mod CaseBytes
 pub mod MarkedCases
+pub mod LimitedFloor

@@ -9,10 +9,11 @@ use Rattle.model.specs.Least.{any, least, arg}
 use Rattle.model.specs.Sets.{member, with, without}
 use Rattle.model.specs.Instance.{metric, fourPointBPQ, fourPointPQ, fourPointQ, fourPoint, nearest, atNearest, assigned, openingCost, serviceCost, totalCost}
 use Rattle.model.specs.Closing.{second, secondCost, costAt, costElsewhere, closingChange}
+use Rattle.model.specs.Floor.{excessAt, withinAt, feasible, floor}
 use Rattle.model.specs.Neighbours.{addAt, adds, dropAt, drops, swapAt, swapsOut, swaps, addDropSwap}
 use Rattle.model.specs.Search.{better, best, next, descend, search}
 use Rattle.model.specs.Plans.{openCost, openStart, openSearch, limitedCost, limitedStart, limitedSearch}
-use Rattle.record.specs.Records.{recordOf, recordAt, bytesOf}
+use Rattle.record.specs.Records.{recordAt, amountAt, bytesOf}
 use Rattle.model.specs.Answers.{Answer, accepted, refused}
 use Rattle.questions.specs.Sheet.{isYard, yards, hauls, farms, fee, haul, loadsByte, instanceOf, instanceBy}
 use Rattle.questions.specs.Questions.{question1, question2, wellFormed, wellFormedAt, question3, numbered, noYardAfter, question4, haulInPlace, farmInPlace, question10, haulLoaded, farmLoaded, question5, amountWithin, question6}
@@ -31,53 +32,14 @@ use Rattle.price.specs.Pricing.{Plan, question8, pricing}
 use Rattle.price_by.specs.PricingBy.{pricingBy}
 use Rattle.shut.specs.Shutting.{secondOf, seconding, question14, shutting}
 use Rattle.shut_by.specs.ShuttingBy.{secondingBy, shuttingBy}
+use Rattle.floor.specs.Offering.{isOffer, offerInPlace, question15, question16, offering}
+use Rattle.floor_by.specs.OfferingBy.{offeringBy}
 use Rattle.search.specs.SearchEnds.{settledAt, openEnd, limitedEnd, planOf}
 use Rattle.search.specs.Planning.{openPlan, limitedPlan, question7, openPlanning, limitedPlanning}
 use Rattle.by_tariff.specs.PlanningBy.{openPlanningBy, limitedPlanningBy}
+use Rattle.cases.proofs.CaseBytes.{yard, haulTo, twoYards, equalHauls, withFees, loaded, sheetS, oneDistance, offer, offered, secondIs, twoBands, highest, opened, brings, served, ends}
 
--- ---- the sheets
-
-yard : ℕ → ℕ → List ℕ
-yard i fee = bytesOf (recordOf 0x59 i 0 0 fee)
-
--- farm p's haul to yard a, with the byte of its loads
-haulTo : ℕ → ℕ → ℕ → ℕ → List ℕ
-haulTo p a byte3 amount = bytesOf (recordOf 0x48 a p byte3 amount)
-
--- two yards with fees 0, and two farms of these loads: hauls 1, 1 and 1, x
-twoYards : ℕ → ℕ → ℕ → List ℕ
-twoYards b c x = yard 0 0 ++ yard 1 0 ++ haulTo 0 0 b 1 ++ haulTo 0 1 b 1 ++ haulTo 1 0 c 1 ++ haulTo 1 1 c x
-
--- document 02, paper 1: two yards with these fees and one farm at 3 and 3; its two records have these bytes
-equalHauls : ℕ → ℕ → ℕ → ℕ → List ℕ
-equalHauls a b c d = yard 0 a ++ yard 1 b ++ haulTo 0 0 c 3 ++ haulTo 0 1 d 3
-
--- sheet S, fees 1, 4, 2; hauls of farm 0: 1, 3, 9; farm 1: 5, 1, 5; farm 2: 9, 5, 1; with these bytes of loads
-loaded : ℕ → ℕ → ℕ → List ℕ
-loaded b c d =
-    yard 0 1 ++ yard 1 4 ++ yard 2 2
-    ++ haulTo 0 0 b 1 ++ haulTo 0 1 b 3 ++ haulTo 0 2 b 9
-    ++ haulTo 1 0 c 5 ++ haulTo 1 1 c 1 ++ haulTo 1 2 c 5
-    ++ haulTo 2 0 d 9 ++ haulTo 2 1 d 5 ++ haulTo 2 2 d 1
-
-sheetS : List ℕ
-sheetS = loaded 0 0 0
-
--- document 02, paper 3: one farm at this distance from the only yard, which has this fee; byte 3 of its record
-oneDistance : ℕ → ℕ → ℕ → List ℕ
-oneDistance fee byte3 distance = yard 0 fee ++ haulTo 0 0 byte3 distance
-
--- ---- the tariffs
-
--- two bands of these rates, the second from this start up to 1000
-twoBands : ℕ → ℕ → ℕ → List ℕ
-twoBands rate start lower = bandBytes 0 0 100 rate ++ bandBytes 1 start 1000 lower
-
--- one band of the highest end and the highest rate
-highest : List ℕ
-highest = bandBytes 0 0 65535 65535
-
--- ---- the calls, and what they give: the counts, a plan's records and moves, a second yard with the haul there, or a change; or a number
+-- ---- the calls, and what they give: the counts, a plan's records and moves, a second yard with the haul there, a change, or a floor; or a number
 
 pub data Call : Type 0 where
   reads : List ℕ → Call
@@ -92,12 +54,15 @@ pub data Call : Type 0 where
   shuts : List ℕ → ℕ → ℕ → Call
   asksSecondBy : TariffChoice → List ℕ → List ℕ → ℕ → ℕ → Call
   shutsBy : TariffChoice → List ℕ → List ℕ → ℕ → ℕ → Call
+  asksFloor : List ℕ → List ℕ → Call
+  asksFloorBy : TariffChoice → List ℕ → List ℕ → List ℕ → Call
 
 pub data Given : Type 0 where
   readAnswer : Answer Counts → Given
   planAnswer : Answer Plan → Given
   secondAnswer : Answer Nearest → Given
   changeAnswer : Answer ℤ → Given
+  floorAnswer : Answer ℕ → Given
 
 -- an area of 64 bytes holds every plan of S
 room : ℕ
@@ -116,22 +81,10 @@ given (asksSecond s set farm) = secondAnswer (seconding s set farm)
 given (shuts s set yard) = changeAnswer (shutting s set yard)
 given (asksSecondBy choice tariff s set farm) = secondAnswer (secondingBy choice tariff s set farm)
 given (shutsBy choice tariff s set yard) = changeAnswer (shuttingBy choice tariff s set yard)
+given (asksFloor s offers) = floorAnswer (offering s offers)
+given (asksFloorBy choice tariff s offers) = floorAnswer (offeringBy choice tariff s offers)
 
--- ---- the records of a plan
-
-opened : ℕ → ℕ → List ℕ
-opened i fee = bytesOf (recordOf 0x4F i 0 0 fee)
-
--- farm p is given yard a, and its record has this byte 3
-brings : ℕ → ℕ → ℕ → ℕ → List ℕ
-brings p a byte3 amount = bytesOf (recordOf 0x41 a p byte3 amount)
-
-served : ℕ → ℕ → ℕ → List ℕ
-served p a amount = brings p a 0 amount
-
--- the total for so many yards and farms, and the moves
-ends : ℕ → ℕ → ℕ → ℕ → List ℕ
-ends open-yards farm-count total moves = bytesOf (recordOf 0x54 open-yards farm-count 0 total) ++ bytesOf (recordOf 0x4D 0 0 0 moves)
+-- ---- the answers of the calls that write a plan
 
 gives : List ℕ → ℕ → Given
 gives bytes moves = planAnswer (accepted record { bytes = bytes; moves = moves })
@@ -250,6 +203,34 @@ table =
     ∷ case (shutsBy HouseTariff [] (twoYards 0 2 3) 3 0) (changeAnswer (accepted (pos 160)))
     ∷ case (shutsBy NoTariff [] (twoYards 0 2 3) 3 0) (changeAnswer (accepted (pos 4)))
     ∷ case (shutsBy GivenTariff (twoBands 40 100 41) [] 0 9) (changeAnswer (refused 12))
+    -- paper 10, S: each yard is offered just its fee, and the sum is the open plan's total; one cent more of each farm; the highest amounts
+    ∷ case (asksFloor sheetS (offered 2 5 3)) (floorAnswer (accepted 10))
+    ∷ case (asksFloor sheetS (offered 3 5 3)) (floorAnswer (refused 16))
+    ∷ case (asksFloor sheetS (offered 2 6 3)) (floorAnswer (refused 16))
+    ∷ case (asksFloor sheetS (offered 2 5 4)) (floorAnswer (refused 16))
+    ∷ case (asksFloor sheetS (offered 4294967295 4294967295 4294967295)) (floorAnswer (refused 16))
+    -- with 1, 1 and 20 loads 2 + 5 + 20, and 20 cents for yard 2, whose fee is 2; with equal fees of 4, of which the limited plan for 1 hauls for 13 - 4
+    ∷ case (asksFloor (loaded 0 1 20) (offered 2 5 1)) (floorAnswer (accepted 27))
+    ∷ case (asksFloor (loaded 0 1 20) (offered 2 5 2)) (floorAnswer (refused 16))
+    ∷ case (asksFloor (withFees 4 4 4 0 0 0) (offered 3 5 5)) (floorAnswer (accepted 13))
+    -- another kind, byte 1, byte 3, a farm twice, two farms exchanged, a record too few or too many, part of one, none; 15 before 16
+    ∷ case (asksFloor sheetS (secondIs 0x48 0 1 0)) (floorAnswer (refused 15))
+    ∷ case (asksFloor sheetS (secondIs 0x56 1 1 0)) (floorAnswer (refused 15))
+    ∷ case (asksFloor sheetS (secondIs 0x56 0 1 1)) (floorAnswer (refused 15))
+    ∷ case (asksFloor sheetS (secondIs 0x56 0 0 0)) (floorAnswer (refused 15))
+    ∷ case (asksFloor sheetS (offer 1 5 ++ offer 0 2 ++ offer 2 3)) (floorAnswer (refused 15))
+    ∷ case (asksFloor sheetS (offer 0 2 ++ offer 1 5)) (floorAnswer (refused 15))
+    ∷ case (asksFloor sheetS (offered 2 5 3 ++ offer 3 0)) (floorAnswer (refused 15))
+    ∷ case (asksFloor sheetS (offered 2 5 3 ++ 0 ∷ [])) (floorAnswer (refused 15))
+    ∷ case (asksFloor sheetS []) (floorAnswer (refused 15))
+    ∷ case (asksFloor sheetS (offer 0 9 ++ offer 1 9 ++ offer 1 9)) (floorAnswer (refused 15))
+    -- what reading asks comes first; by the house tariff a distance of 120 is offered 4,680 and the fee, by none 120 and the fee; a refused tariff
+    ∷ case (asksFloor (twoYards 0 0 4) []) (floorAnswer (refused 6))
+    ∷ case (asksFloorBy HouseTariff [] (oneDistance 7 0 120) (offer 0 4687)) (floorAnswer (accepted 4687))
+    ∷ case (asksFloorBy HouseTariff [] (oneDistance 7 0 120) (offer 0 4688)) (floorAnswer (refused 16))
+    ∷ case (asksFloorBy NoTariff [] (oneDistance 7 0 120) (offer 0 127)) (floorAnswer (accepted 127))
+    ∷ case (asksFloorBy NoTariff [] (oneDistance 7 0 120) (offer 0 4687)) (floorAnswer (refused 16))
+    ∷ case (asksFloorBy GivenTariff (twoBands 40 100 41) [] []) (floorAnswer (refused 12))
     ∷ []
 
 pub expected : List Case → List Given
@@ -261,5 +242,5 @@ computed [] = []
 computed (c ∷ cs) = given (c .call) ∷ computed cs
 
 pub marked-cases : computed table ≡ expected table
-unfolding table case bandBytes twoBands highest oneDistance gives refuses ends served brings opened given room sheetS loaded twoYards equalHauls haulTo yard expected computed bytesOf recordAt wellFormed reading formAndLoads form question1 question2 wellFormedAt question3 numbered noYardAfter question4 haulInPlace farmInPlace question10 haulLoaded farmLoaded question5 amountWithin question6 isYard yards hauls farms fee haul loadsByte instanceOf instanceBy allBelow leading sum join any least arg member with without metric fourPointBPQ fourPointPQ fourPointQ fourPoint nearest atNearest assigned openingCost serviceCost totalCost addAt adds dropAt drops swapAt swapsOut swaps addDropSwap better best next descend search openCost openStart openSearch limitedCost limitedStart limitedSearch openRecord farmRecord totalRecord movesRecord planBytes question9 question8 pricing openEnd limitedEnd settledAt planOf openPlan limitedPlan question7 openPlanning limitedPlanning inside charge haulBy lastEnd bandOf bandAt tariffLength inPlace bandInPlace question11 noRise question12 bandsOf tariffReading pricedRecord pricedAt pricedSheet question13 pricedBy underGiven sheetBy readingBy pricingBy openPlanningBy limitedPlanningBy second secondCost costAt costElsewhere closingChange secondOf seconding question14 shutting secondingBy shuttingBy
+unfolding table case bandBytes twoBands highest oneDistance gives refuses ends served brings opened given room offer offered secondIs sheetS loaded withFees twoYards equalHauls haulTo yard expected computed bytesOf recordAt wellFormed reading formAndLoads form question1 question2 wellFormedAt question3 numbered noYardAfter question4 haulInPlace farmInPlace question10 haulLoaded farmLoaded question5 amountWithin question6 isYard yards hauls farms fee haul loadsByte instanceOf instanceBy allBelow leading sum join any least arg member with without metric fourPointBPQ fourPointPQ fourPointQ fourPoint nearest atNearest assigned openingCost serviceCost totalCost addAt adds dropAt drops swapAt swapsOut swaps addDropSwap better best next descend search openCost openStart openSearch limitedCost limitedStart limitedSearch openRecord farmRecord totalRecord movesRecord planBytes question9 question8 pricing openEnd limitedEnd settledAt planOf openPlan limitedPlan question7 openPlanning limitedPlanning inside charge haulBy lastEnd bandOf bandAt tariffLength inPlace bandInPlace question11 noRise question12 bandsOf tariffReading pricedRecord pricedAt pricedSheet question13 pricedBy underGiven sheetBy readingBy pricingBy openPlanningBy limitedPlanningBy second secondCost costAt costElsewhere closingChange secondOf seconding question14 shutting secondingBy shuttingBy amountAt excessAt withinAt feasible floor isOffer offerInPlace question15 question16 offering offeringBy
 marked-cases = refl

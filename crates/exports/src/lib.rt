@@ -1,10 +1,10 @@
 // The calls of the planner for Rust and C, as `include/planner.h` declares them.
 //
-// Each hands its arguments on to `sheet`, `stretch`, `price` or `search` or, by a tariff, to `distances`, `price_by`, `shut_by` or `by_tariff`, and gives the answer as
-// one number by `numbers`: bits 0 to 7 the refusal number, 0 where the call is accepted, and above them what the call returns. A refused call gives its
+// Each hands its arguments on to `sheet`, `stretch`, `price` or `search` or, by a tariff, to `distances`, `price_by`, `shut_by`, `floor_by` or `by_tariff`, and gives
+// the answer as one number by `numbers`: bits 0 to 7 the refusal number, 0 where the call is accepted, and above them what the call returns. A refused call gives its
 // number alone. Every call is total.
 //
-// A call whose name ends in `by`, `second` or `shut` is told what the amounts of haul records are: `hauls` is 0 for hauls as written, 1 for distances by the house
+// A call whose name ends in `by`, `second`, `shut` or `floor` is told what the amounts of haul records are: `hauls` is 0 for hauls as written, 1 for distances by the house
 // tariff, and any other number for distances by the tariff that is handed over, whose bytes count only then.
 ghost use mathlib.Core.Path.{_≡_};
 ghost use lib.ListN.{length, getD};
@@ -14,10 +14,11 @@ ghost use Rattle.distances.specs.Priced.{sheetBy, readingBy, OnHauls};
 ghost use Rattle.price.specs.Pricing.{answer, areaAfter, pricing};
 ghost use Rattle.price_by.specs.PricingBy.{pricingBy};
 ghost use Rattle.shut_by.specs.ShuttingBy.{secondingBy, shuttingBy};
+ghost use Rattle.floor_by.specs.OfferingBy.{offeringBy};
 ghost use Rattle.search.specs.Planning.{openPlanning, limitedPlanning};
 ghost use Rattle.by_tariff.specs.PlanningBy.{openPlanningBy, limitedPlanningBy};
 ghost use Rattle.search.specs.Promises.{NoOpenMove, BoundedByRivals, OfSize, NoLimitedMove, BoundedByRivalsOf};
-ghost use Rattle.numbers.specs.Numbers.{countsNumber, resultNumber, secondNumber, changeNumber, choiceOf, OfWritten, DifferenceTold};
+ghost use Rattle.numbers.specs.Numbers.{countsNumber, resultNumber, secondNumber, changeNumber, sumNumber, choiceOf, OfWritten, DifferenceTold, UnderAllTold};
 
 // Asks questions 1 to 4, 10, 5 and 6. Bits 8 to 15: the yards; bits 16 to 23: the farms.
 #[no_mangle]
@@ -182,4 +183,15 @@ pub extern "C" fn planner_shut(sheet: &[u8], hauls: u8, tariff: &[u8], set: u32,
 {
     let change = shut_by::shut_by(sheet, numbers::choice_of(hauls), tariff, set, yard);
     numbers::change_number(change)
+}
+
+// The sum of loads times the amounts that somebody offers, one for each farm, where no yard is offered more than its fee. Bits 8 to 63: the sum. It is at
+// most the full cost, on the sheet of hauls, of any set that is not empty.
+#[no_mangle]
+pub extern "C" fn planner_floor(sheet: &[u8], hauls: u8, tariff: &[u8], offers: &[u8]) -> u64
+    ensures answer { λ r. ⌜ r ≡ sumNumber (offeringBy (choiceOf hauls) (now (tariff .entry)) (now (sheet .entry)) (now (offers .entry))) ⌝ }
+    ensures under { λ r. ⌜ OnHauls (sheetBy (choiceOf hauls) (now (tariff .entry)) (now (sheet .entry))) (λ h. UnderAllTold h r) ⌝ }
+{
+    let bound = floor_by::floor_by(sheet, numbers::choice_of(hauls), tariff, offers);
+    numbers::sum_number(bound)
 }

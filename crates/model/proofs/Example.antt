@@ -10,6 +10,7 @@ use Rattle.model.specs.Least.{any, least, arg}
 use Rattle.model.specs.Sets.{member, with, without}
 use Rattle.model.specs.Instance.{Instance, metric, fourPointBPQ, fourPointPQ, fourPointQ, fourPoint, nearest, atNearest, assigned, openingCost, serviceCost, totalCost}
 use Rattle.model.specs.Closing.{second, secondCost, costAt, costElsewhere, closingChange}
+use Rattle.model.specs.Floor.{excessAt, withinAt, feasible, floor, withEqualOpening}
 use Rattle.model.specs.QuickMetric.{greatest, route, spread, quickPair, quickMetric}
 use Rattle.model.specs.Neighbours.{addAt, adds, dropAt, drops, swapAt, swapsOut, swaps, addDropSwap}
 use Rattle.model.specs.Search.{reached, better, best, next, descend, search}
@@ -108,6 +109,24 @@ example-closing : (closingChange example (member 7) 0 ≡ pos 1) × (closingChan
     × (closingChange (two-fees 4 2 3 3) (member 3) 0 ≡ negsuc 3) × (closingChange loaded (member 3) 1 ≡ pos 12)
 unfolding example two-fees loaded closingChange costAt costElsewhere secondCost assigned atNearest nearest member least arg any sum
 example-closing = (refl, refl, refl, refl)
+
+-- Document 02, paper 10. On S amounts of 2, 5 and 3 offer each yard just its fee, and come to 10, so that the open plan's 10 is the least there is;
+-- with one cent more of any of them a yard is overbid.
+example-floor : (feasible example (row 2 5 3) ≡ true) × (floor example (row 2 5 3) ≡ 10) × (feasible example (row 3 5 3) ≡ false)
+    × (feasible example (row 2 6 3) ≡ false) × (feasible example (row 2 5 4) ≡ false)
+unfolding example feasible withinAt excessAt floor allBelow sum
+example-floor = (refl, refl, refl, refl, refl)
+
+-- With 2, 1 and 3 loads 1, 5 and 1 come to 2 + 5 + 3. One cent more of farm 0, which yard 0 is offered twice, is above its fee 1.
+example-floor-loads : (feasible loaded (row 1 5 1) ≡ true) × (floor loaded (row 1 5 1) ≡ 10) × (feasible loaded (row 2 5 1) ≡ false)
+unfolding loaded feasible withinAt excessAt floor allBelow sum
+example-floor-loads = (refl, refl, refl)
+
+-- Lists of one yard: with every fee set to 4, amounts of 3, 5 and 5 are feasible and come to 13, so that no yard hauls for less than 13 - 4; yard 1 does
+-- for 9.
+example-floor-limited : (feasible (withEqualOpening 4 example) (row 3 5 5) ≡ true) × (floor example (row 3 5 5) ≡ 13) × (serviceCost example (member 2) ≡ 9)
+unfolding example feasible withinAt excessAt floor allBelow serviceCost nearest member least any sum
+example-floor-limited = (refl, refl, refl)
 
 -- From {1, 2} of four: the adds of 0 and 3, the drops of 1 and 2, then the swaps by the number going out and by the number coming in: 0 and
 -- 3 for 1, 0 and 3 for 2.

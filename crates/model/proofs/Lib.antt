@@ -16,6 +16,7 @@ pub mod CostLaws
 pub mod QuickMetricLaws
 pub mod ChargeLaws
 pub mod ClosingLaws
+pub mod FloorLaws
 pub mod NearestChangeLaws
 pub mod SetLaws
 pub mod NeighbourLaws

@@ -1,4 +1,4 @@
--- The places of a table: as a loop fills them one by one, with one of them changed, where all hold the same, and in rows.
+-- The places of a table: as a loop fills or changes them one by one, with one of them changed, where all hold the same, and in rows.
 use Prim.Native.Nat.{ℕ, _+_, _*_, _≤_, _<_}
 use native.Mathlib.Nat.{mul-le-mul, mul-le-mul-right, add-mul}
 use native.Mathlib.Omega.{arith}
@@ -16,6 +16,21 @@ front-more f i x table room e h k l =
     up-to (λ k. getD (set table i x) k 0 ≡ f k) i
     (λ k l. getD-set-other table i k x 0 (λ q. omega arith) ∙ h k l)
     (getD-set-same table i x 0 room ∙ e) k (omega arith)
+
+-- a table that a loop changes place by place: those before i hold what Q says, those from i up to n what P says
+pub record ChangedTo (P Q : ℕ → ℕ → Type 0) (n i : ℕ) (table : List ℕ) : Type 0 where
+  pub changed : (k : ℕ) → k < i → Q k (getD table k 0)
+  pub still : (k : ℕ) → i ≤ k → k < n → P k (getD table k 0)
+
+pub changed-more : (P Q : ℕ → ℕ → Type 0) (n i x : ℕ) (table : List ℕ) → i < length table → Q i x → ChangedTo P Q n i table
+    → ChangedTo P Q n (i + 1) (set table i x)
+changed-more P Q n i x table room here h =
+    record {
+      changed = λ k l. up-to (λ k. Q k (getD (set table i x) k 0)) i
+          (λ k l. subst (Q k) (sym (getD-set-other table i k x 0 (λ q. omega arith))) (h .changed k l))
+          (subst (Q i) (sym (getD-set-same table i x 0 room)) here) k (omega arith);
+      still = λ k l b. subst (P k) (sym (getD-set-other table i k x 0 (λ q. omega arith))) (h .still k (omega arith) b);
+    }
 
 -- what holds of every place and of x holds of every place once one is x
 pub each-set : (P : ℕ → Type 0) (i x : ℕ) (table : List ℕ) → i < length table → P x → ((k : ℕ) → P (getD table k 0))

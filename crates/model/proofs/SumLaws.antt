@@ -139,6 +139,10 @@ pub on-le : (b : Bool) (x : ℕ) → on b x ≤ x
 on-le true x = le-refl x
 on-le false x = zero-le
 
+pub on-mono : (b : Bool) {x y : ℕ} → x ≤ y → on b x ≤ on b y
+on-mono true h = h
+on-mono false h = zero-le
+
 pub on-swap : (a b : Bool) (x : ℕ) → on a (on b x) ≡ on b (on a x)
 on-swap true b x = refl
 on-swap false b x = sym (on-zero b)
@@ -164,6 +168,18 @@ on-split false b x = refl
 pub on-sum : (n : ℕ) (b : Bool) (f : ℕ → ℕ) → on b (sum n f) ≡ sum n (λ i. on b (f i))
 on-sum n true f = refl
 on-sum n false f = sym (sum-zero n)
+
+-- the same value at each member of S
+pub sum-on-same : (m k : ℕ) (S : ℕ → Bool) (w : ℕ → ℕ) → ((i : ℕ) → i < m → w i ≡ k)
+    → sum m (λ i. on (S i) (w i)) ≡ sum m (λ i. on (S i) 1) * k
+unfolding sum
+sum-on-same zero k S w h = omega arith
+sum-on-same (suc m) k S w h = go (S m) (sum-on-same m k S w (λ i l. h i (le-step l)))
+  where
+    go : (b : Bool) → sum m (λ i. on (S i) (w i)) ≡ sum m (λ i. on (S i) 1) * k
+        → sum m (λ i. on (S i) (w i)) + on b (w m) ≡ (sum m (λ i. on (S i) 1) + on b 1) * k
+    go true ih = omega (arith, ih, h m (lt-suc-self m))
+    go false ih = omega (arith, ih)
 
 -- an inequality at each member of H, summed
 pub sum-over : (m : ℕ) (H : ℕ → Bool) (a b c d : ℕ → ℕ) → ((i : ℕ) → i < m → H i ≡ true → a i + b i ≤ c i + d i)

@@ -1,7 +1,8 @@
 -- Loops: what loops compute. Least: least members. Sets: sets of numbers. Instance: the problem and its costs.
 -- Neighbours: the moves of a search. Search: the search itself. Limit: the search with a limit on moves. Plans: the two searches of document 01.
 -- TwoLeast: the two least values over a set. Passing: what a loop makes of a value. QuickMetric: a quicker test of metric service costs. Charges:
--- service costs that are worked out from distances. Closing: what closing a facility changes. Answers: a refusal number or a result.
+-- service costs that are worked out from distances. Closing: what closing a facility changes. Floor: a floor under the cost of every set.
+-- Answers: a refusal number or a result.
 pub mod Loops
 pub mod Passing
 pub mod Least
@@ -15,4 +16,5 @@ pub mod Plans
 pub mod QuickMetric
 pub mod Charges
 pub mod Closing
+pub mod Floor
 pub mod Answers

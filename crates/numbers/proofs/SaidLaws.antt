@@ -20,7 +20,10 @@ use Rattle.price.proofs.OfPlanLaws.{PlanOf, set-read-off}
 use Rattle.shut.specs.declared.Change.{Change}
 use Rattle.shut.specs.declared.Change.the-variants as change
 use Rattle.shut.specs.Shutting.{shutAnswer, IsDifference}
-use Rattle.numbers.specs.Numbers.{countsNumber, resultNumber, secondNumber, changeNumber, refusal, yardsRead, farmsRead, bytesWritten, movesMade, secondFound, yardTold, haulTold, changeTold, OfWritten, DifferenceTold, KeepsBits, CountsKeepBits, SecondKeepsBits, ChangeKeepsBits}
+use Rattle.floor.specs.declared.LowerBound.{LowerBound}
+use Rattle.floor.specs.declared.LowerBound.the-variants as lower-bound
+use Rattle.floor.specs.Offering.{boundAnswer, UnderAll}
+use Rattle.numbers.specs.Numbers.{countsNumber, resultNumber, secondNumber, changeNumber, sumNumber, refusal, yardsRead, farmsRead, bytesWritten, movesMade, secondFound, yardTold, haulTold, changeTold, sumTold, OfWritten, DifferenceTold, UnderAllTold, KeepsBits, CountsKeepBits, SecondKeepsBits, ChangeKeepsBits, SumKeepsBits}
 
 -- ---- reading: no refusal, and the counts, or the refusal number, which is not 0
 
@@ -90,6 +93,17 @@ change-said (accepted (negsuc n)) small =
     (omega arith, rw (eq-eqb (r / 2 ^ 8 % 2) 1 bit) (ap (λ x. negℤ (pos x)) size))
 change-said (refused k) (some, small) = (omega arith, some)
 
+-- ---- a floor: no refusal, and the sum, or the refusal number
+
+abbrev pub SumSaid : Answer ℕ → Type 0
+SumSaid (accepted sum) = (refusal (sumNumber (accepted sum)) ≡ 0) × (sumTold (sumNumber (accepted sum)) ≡ sum)
+SumSaid (refused k) = (refusal (sumNumber (refused k)) ≡ k) × (1 ≤ k)
+
+pub sum-said : (a : Answer ℕ) → SumKeepsBits a → SumSaid a
+unfolding refusal sumTold
+sum-said (accepted sum) small = (omega arith, omega arith)
+sum-said (refused k) (some, small) = (omega arith, some)
+
 -- ---- what is promised of a plan is promised of the bytes that the number tells
 
 module _ (r : ℕ) (area : List ℕ) (P : ℕ → Type 0) where
@@ -119,3 +133,11 @@ difference-told s set yard r (change.Cents cents) within e h accepts =
     ap changeTold e ∙ change-said (accepted cents) within .1 ∙ h cents refl
 difference-told s set yard r (change.Refused k) within e h accepts =
     absurd (omega (arith, sym (change-said (refused k) within .0) ∙ sym (ap refusal e) ∙ accepts, within .0))
+
+-- ---- and of a sum
+
+pub under-told : (s : List ℕ) (r : ℕ) (b : LowerBound) → SumKeepsBits (boundAnswer b) → r ≡ sumNumber (boundAnswer b) → UnderAll s b → UnderAllTold s r
+under-told s r (lower-bound.Cents sum) within e under accepts rival some =
+    rw (ap sumTold e ∙ sum-said (accepted sum) within .1) (under sum refl rival some)
+under-told s r (lower-bound.Refused k) within e under accepts rival some =
+    absurd (omega (arith, sym (sum-said (refused k) within .0) ∙ sym (ap refusal e) ∙ accepts, within .0))

@@ -6,10 +6,11 @@ use mathlib.Core.List.{List}
 use lib.Dec.{eqb}
 use lib.IntN.{ℤ, pos, negsuc, negℤ, natAbs, _-ℤ_}
 use Rattle.model.specs.Loops.{on}
+use Rattle.model.specs.Least.{any}
 use Rattle.model.specs.Sets.{member, without}
 use Rattle.model.specs.Instance.{totalCost}
 use Rattle.model.specs.Answers.{Answer, accepted, refused}
-use Rattle.questions.specs.Sheet.{instanceOf}
+use Rattle.questions.specs.Sheet.{yards, instanceOf}
 use Rattle.questions.specs.Reading.{Counts}
 use Rattle.tariff.specs.declared.TariffChoice.{TariffChoice}
 use Rattle.tariff.specs.declared.TariffChoice.the-variants.{NoTariff, HouseTariff, GivenTariff}
@@ -40,6 +41,11 @@ belowZero (negsuc n) = true
 abbrev pub changeNumber : Answer ℤ → ℕ
 changeNumber (accepted change) = on (belowZero change) (2 ^ 8) + natAbs change % 2 ^ 48 * 2 ^ 16
 changeNumber (refused k) = k
+
+-- A floor: from bit 8 the sum.
+abbrev pub sumNumber : Answer ℕ → ℕ
+sumNumber (accepted sum) = sum % 2 ^ 56 * 2 ^ 8
+sumNumber (refused k) = k
 
 -- What a call by a tariff is told: 0, hauls as written; 1, distances by the house tariff; any other number, distances by the tariff that is
 -- handed over.
@@ -80,6 +86,10 @@ haulTold r = r / 2 ^ 32 % 2 ^ 32
 unfoldable pub changeTold : ℕ → ℤ
 changeTold r = cond (eqb (r / 2 ^ 8 % 2) 1) (negℤ (pos (r / 2 ^ 16 % 2 ^ 48))) (pos (r / 2 ^ 16 % 2 ^ 48))
 
+-- bits 8 to 63 of what the call for a floor gives
+unfoldable pub sumTold : ℕ → ℕ
+sumTold r = r / 2 ^ 8 % 2 ^ 56
+
 -- what holds of the set in the area, where the number says that the call was accepted and how many bytes it wrote
 abbrev pub OfWritten : ℕ → List ℕ → (ℕ → Type 0) → Type 0
 OfWritten r area P = refusal r ≡ 0 → P (planSet area (bytesWritten r))
@@ -88,6 +98,11 @@ OfWritten r area P = refusal r ≡ 0 → P (planSet area (bytesWritten r))
 abbrev pub DifferenceTold : List ℕ → ℕ → ℕ → ℕ → Type 0
 DifferenceTold s set yard r =
     refusal r ≡ 0 → changeTold r ≡ pos (totalCost (instanceOf s) (member (without set yard))) -ℤ pos (totalCost (instanceOf s) (member set))
+
+-- "which is no more than the full cost of any non-empty set", of the sum that the number of an accepted call tells
+abbrev pub UnderAllTold : List ℕ → ℕ → Type 0
+UnderAllTold s r =
+    refusal r ≡ 0 → (rival : ℕ → Bool) → any (yards s) rival ≡ true → sumTold r ≤ totalCost (instanceOf s) rival
 
 -- ---- what an answer has to be so that a caller reads it off its number again: each part keeps to its bits, and so does a refusal number, which is not 0
 
@@ -106,3 +121,7 @@ SecondKeepsBits (refused k) = (1 ≤ k) × (k < 2 ^ 8)
 abbrev pub ChangeKeepsBits : Answer ℤ → Type 0
 ChangeKeepsBits (accepted change) = natAbs change < 2 ^ 48
 ChangeKeepsBits (refused k) = (1 ≤ k) × (k < 2 ^ 8)
+
+abbrev pub SumKeepsBits : Answer ℕ → Type 0
+SumKeepsBits (accepted sum) = sum < 2 ^ 56
+SumKeepsBits (refused k) = (1 ≤ k) × (k < 2 ^ 8)

@@ -9,14 +9,16 @@ ghost use Rattle.model.specs.Loops.{on};
 ghost use Rattle.questions.specs.Reading.{readingAnswer};
 ghost use Rattle.price.specs.Pricing.{plannedAnswer};
 ghost use Rattle.shut.specs.Shutting.{secondAnswer, shutAnswer};
-ghost use Rattle.numbers.specs.Numbers.{choiceOf, countsNumber, resultNumber, secondNumber, changeNumber};
+ghost use Rattle.floor.specs.Offering.{boundAnswer};
+ghost use Rattle.numbers.specs.Numbers.{choiceOf, countsNumber, resultNumber, secondNumber, changeNumber, sumNumber};
+use floor::LowerBound;
 use price::Planned;
 use sheet::Reading;
 use shut::Change;
 use shut::SecondYard;
 use tariff::TariffChoice;
 
-// What the parts of a number count for that begin at bit 8, at bit 16, at bit 24, at bit 32 and at bit 48.
+// What the parts of a number count for that begin at bit 8, at bit 16, at bit 24, at bit 32, at bit 48 and at bit 56.
 const BIT_8: u64 = 256;
 
 const BIT_16: u64 = 65536;
@@ -26,6 +28,8 @@ const BIT_24: u64 = 16777216;
 const BIT_32: u64 = 4294967296;
 
 const BIT_48: u64 = 281474976710656;
+
+const BIT_56: u64 = 72057594037927936;
 
 // What the amounts of haul records are, by its number.
 pub fn choice_of(hauls: u8) -> TariffChoice
@@ -81,6 +85,16 @@ pub fn change_number(change: Change) -> u64
     match change {
         Change::Cents(cents) => { bit_8(cents < 0) + size(cents) % BIT_48 * BIT_16 }
         Change::Refused(number) => number as u64,
+    }
+}
+
+// What the call for a floor answers. Bits 8 to 63: the sum.
+pub fn sum_number(bound: LowerBound) -> u64
+    ensures { λ r. ⌜ r ≡ sumNumber (boundAnswer bound) ⌝ }
+{
+    match bound {
+        LowerBound::Cents(sum) => sum % BIT_56 * BIT_8,
+        LowerBound::Refused(number) => number as u64,
     }
 }
 

@@ -17,11 +17,11 @@ use Rattle.model.proofs.PlaceLaws.{few-places}
 use Rattle.record.specs.Records.{recordOf, recordAt, wholeRecordAt, bytesOf, splice}
 use Rattle.record.specs.declared.Record.{Record}
 use Rattle.questions.specs.Bounds.{mostYards, mostFarms}
-use Rattle.questions.specs.Sheet.{fee, loadsByte, farmByte, loadsOf, instanceBy}
+use Rattle.questions.specs.Sheet.{fee, farmByte, loadsOf, instanceBy}
 use Rattle.questions.specs.Shape.{Shape}
 use Rattle.stretch.specs.Stretch.{stretch}
 use Rattle.record.proofs.RecordLaws.{whole}
-use Rattle.stretch.proofs.FarmLaws.{stretch-length, stretch-record}
+use Rattle.stretch.proofs.FarmLaws.{byte-on}
 use Rattle.record.proofs.SpliceLaws.{length-bytes, splice-turn}
 use Rattle.nearest.specs.declared.Nearest.{Nearest}
 use Rattle.plan_area.specs.declared.plan.Total.{Total}
@@ -70,15 +70,6 @@ module _ (I : Instance) (set : ℕ) where
         omega (arith, length-append (join n (farmRecord I byte3 set)) (farmRecord I byte3 set n), farms-length n, farm-record-length n)
 
 -- ---- the parts of a sheet's plan
-
--- the byte of a farm's loads, off the first record of its stretch
-pub byte-on : (s : List ℕ) (m n p : ℕ) → Shape s m n → p < n → (hauls : List ℕ) (r : Record) → hauls ≡ stretch s m p → r ≡ wholeRecordAt hauls 0
-    → r .byte3 ≡ farmByte s m p
-unfolding loadsByte
-byte-on s m n p shape l hauls r part e =
-    let long = ap length part ∙ stretch-length s m n p shape l in
-    ap (λ (x : Record). x .byte3)
-    (e ∙ whole hauls 0 (omega (arith, shape .some-yards)) ∙ ap (λ (x : List ℕ). recordAt x 0) part ∙ stretch-record s m n p shape l 0 (shape .some-yards))
 
 module _ (s : List ℕ) (m n set : ℕ) where
   -- an open yard's record has the amount of the yard's record on the sheet

@@ -21,8 +21,7 @@ use Rattle.questions.specs.Sheet.{fee, haul, farmByte, loadsOf, instanceBy}
 use Rattle.questions.specs.Reading.{counts, reading}
 use Rattle.questions.proofs.AcceptedLaws.{HasAmounts, accepts, shape-of}
 use Rattle.stretch.specs.Stretch.{stretch}
-use Rattle.stretch.proofs.FarmLaws.{stretch-record}
-use Rattle.plan_area.proofs.PlanRecordLaws.{byte-on}
+use Rattle.stretch.proofs.FarmLaws.{stretch-record, byte-on}
 use Rattle.tables.specs.Tables.{tabled, tableCost, goodTables}
 use Rattle.tables.proofs.LentTableLaws.{good-from}
 use Rattle.engine.specs.declared.Neighbourhood.{Neighbourhood}

@@ -16,10 +16,10 @@ use Rattle.record.specs.declared.Record.{Record}
 use Rattle.questions.specs.Sheet.{farmByte, loadsOf, instanceBy}
 use Rattle.questions.specs.Shape.{Shape}
 use Rattle.stretch.specs.Stretch.{stretch}
+use Rattle.stretch.proofs.FarmLaws.{byte-on}
 use Rattle.nearest.specs.declared.Nearest.{Nearest}
 use Rattle.nearest.specs.Nearest.{nearestIn, nearestOn}
 use Rattle.plan_area.proofs.FarmNearestLaws.{farm-listed, farm-yard, farm-haul}
-use Rattle.plan_area.proofs.PlanRecordLaws.{byte-on}
 use Rattle.shut.specs.HaulsMoved.{farmThere, farmElsewhere}
 
 -- without a client's own facility the nearest is the second

@@ -22,11 +22,11 @@ use Rattle.record.specs.declared.Record.{Record}
 use Rattle.questions.specs.Sheet.{instanceBy, instanceOf}
 use Rattle.questions.specs.Reading.{counts, reading}
 use Rattle.questions.proofs.AcceptedLaws.{shape-of, instance-is, accepts}
+use Rattle.questions.proofs.AmountLaws.{yard-fee}
 use Rattle.stretch.specs.Stretch.{stretch}
 use Rattle.nearest.specs.declared.Nearest.{Nearest}
 use Rattle.nearest.specs.Nearest.{near, secondOn}
 use Rattle.plan_area.proofs.FarmNearestLaws.{farm-second}
-use Rattle.plan_area.proofs.SheetCostLaws.{yard-fee}
 use Rattle.price.specs.Pricing.{question8}
 use Rattle.shut.specs.declared.Change.{Change}
 use Rattle.shut.specs.Shutting.{secondOf, seconding, question14, shutting, shutAnswer, IsDifference}

@@ -9,11 +9,12 @@ use borrow.Author.Tests.{lt-ltb, le-ltb}
 use lib.ListN.{length, take, drop, length-drop}
 use lib.Seq.{length-take-le}
 use Rattle.model.proofs.PlaceLaws.{row-within}
-use Rattle.record.specs.Records.{recordOf, recordAt}
-use Rattle.record.proofs.RecordLaws.{part-record}
+use Rattle.record.specs.declared.Record.{Record}
+use Rattle.record.specs.Records.{recordOf, recordAt, wholeRecordAt}
+use Rattle.record.proofs.RecordLaws.{whole, part-record}
 use Rattle.questions.specs.Bounds.{haulKind}
 use Rattle.model.specs.Answers.{Answer, accepted, refused}
-use Rattle.questions.specs.Sheet.{place, haul, loadsByte}
+use Rattle.questions.specs.Sheet.{place, haul, loadsByte, farmByte}
 use Rattle.questions.specs.Shape.{Shape}
 use Rattle.questions.specs.Reading.{Counts, counts, form}
 use Rattle.stretch.specs.Stretch.{stretch, stretchBy, farmHauls, fromBy, farmFrom, HaulsFrom}
@@ -33,6 +34,15 @@ module _ (s : List ℕ) (m n p : ℕ) (f : Shape s m n) (below : p < n) where
 
   pub stretch-record : (a : ℕ) → a < m → recordAt (stretch s m p) a ≡ recordAt s (place m p a)
   stretch-record a la = rw part-of (part-record s (m + p * m) m a la)
+
+-- the byte of a farm's loads, off the first record of its stretch
+pub byte-on : (s : List ℕ) (m n p : ℕ) → Shape s m n → p < n → (hauls : List ℕ) (r : Record) → hauls ≡ stretch s m p → r ≡ wholeRecordAt hauls 0
+    → r .byte3 ≡ farmByte s m p
+unfolding loadsByte
+byte-on s m n p shape l hauls r part e =
+    let long = ap length part ∙ stretch-length s m n p shape l in
+    ap (λ (x : Record). x .byte3)
+    (e ∙ whole hauls 0 (omega (arith, shape .some-yards)) ∙ ap (λ (x : List ℕ). recordAt x 0) part ∙ stretch-record s m n p shape l 0 (shape .some-yards))
 
 -- ---- for any caller
 

@@ -1,18 +1,19 @@
 //! The number that tells a call by a tariff what the amounts of haul records are: 0 hauls, 1 distances by the house tariff, and any
-//! other distances by the tariff handed over, which is looked at only then. And the parts of the results of paper 5's calls.
+//! other distances by the tariff handed over, which is looked at only then. And the parts of the results of papers 5 and 10.
 use super::*;
-use crate::format::{band, MOST_AREA};
+use crate::format::{band, offers, HIGHEST_FEE, HIGHEST_HAUL, MOST_AREA, MOST_FARMS, MOST_LOADS};
 use crate::random::Random;
 use crate::table::Table;
 use crate::{literal, samples};
 use std::array::from_fn;
 
-/// The whole results of the six calls, and the areas that they leave.
-fn results(sheet: &[u8], hauls: u8, tariff: &[u8]) -> ([u64; 6], [Vec<u8>; 3]) {
+/// The whole results of the seven calls, and the areas that they leave. The offers are accepted by the tariffs here, and refused on
+/// hauls as written.
+fn results(sheet: &[u8], hauls: u8, tariff: &[u8]) -> ([u64; 7], [Vec<u8>; 3]) {
     let (from, length, bands, bands_length) = (sheet.as_ptr(), sheet.len(), tariff.as_ptr(), tariff.len());
     let mut areas: [Vec<u8>; 3] = from_fn(|_| vec![0xA5; MOST_AREA]);
     let [priced, opened, limited] = areas.each_mut().map(|area| area.as_mut_ptr());
-    let (set, k, farm, yard) = (0b101, 2, 1, 0);
+    let (set, k, farm, yard, offers) = (0b101, 2, 1, 0, offers(&[9; 3]));
     let results = unsafe {
         [
             raw::planner_read_by(from, length, hauls, bands, bands_length),
@@ -21,6 +22,7 @@ fn results(sheet: &[u8], hauls: u8, tariff: &[u8]) -> ([u64; 6], [Vec<u8>; 3]) {
             raw::planner_limited_plan_by(from, length, hauls, bands, bands_length, k, limited, MOST_AREA),
             raw::planner_second(from, length, hauls, bands, bands_length, set, farm),
             raw::planner_shut(from, length, hauls, bands, bands_length, set, yard),
+            raw::planner_floor(from, length, hauls, bands, bands_length, offers.as_ptr(), offers.len()),
         ]
     };
     (results, areas)
@@ -42,16 +44,16 @@ fn every_number_from_2_on_means_the_given_tariff() {
         }
     }
     let number = |tariff: &[u8]| results(&sheet, 255, tariff).0.map(|result| result & 0xFF);
-    assert_eq!(number(&three_bands()), [0; 6]);
-    assert_eq!([number(&rising), number(&rising[8..]), number(&[])], [[12; 6], [11; 6], [11; 6]]);
-    assert_eq!(number(&too_short), [13; 6]);
+    assert_eq!(number(&three_bands()), [0; 7]);
+    assert_eq!([number(&rising), number(&rising[8..]), number(&[])], [[12; 7], [11; 7], [11; 7]]);
+    assert_eq!(number(&too_short), [13; 7]);
 }
 
 #[test]
 fn a_refused_call_gives_its_number_alone() {
     let sheet = Table::s().sheet();
     let (results, areas) = results(&sheet, 2, &band(0, 0, 8, 4));
-    assert_eq!(results, [13; 6]);
+    assert_eq!(results, [13; 7]);
     assert!(areas.iter().flatten().all(|&byte| byte == 0xA5));
 }
 
@@ -62,6 +64,7 @@ fn the_tariff_is_looked_at_only_where_it_is_given() {
     let house = results(&sheet, 1, &[]);
     let given = results(&sheet, 2, &three_bands());
     assert_eq!([&hauls, &house, &given].map(|(results, _)| results[0]), [3 << 16 | 3 << 8; 3]);
+    assert_eq!([&hauls, &house, &given].map(|(results, _)| results[6]), [16, 27 << 8, 27 << 8]);
     assert!(hauls != house && house != given && given != hauls);
     for tariff in [&three_bands()[..], &[0; 8], &[0xFF; 300]] {
         assert_eq!(results(&sheet, 0, tariff), hauls, "tariff {tariff:?}");
@@ -85,6 +88,38 @@ fn the_parts_of_a_change() {
     assert_eq!(change(1 << 8 | 50_000_000 << 16), Ok(-50_000_000));
     assert_eq!(change(u64::MAX << 8), Ok(-0xFFFF_FFFF_FFFF));
     assert_eq!([change(8), change(14)], [Err(8), Err(14)]);
+}
+
+/// The most that offers come to: the full cost of one yard with the highest fee and the most loads at the highest haul.
+const HIGHEST_SUM: u64 = HIGHEST_FEE as u64 + MOST_FARMS as u64 * MOST_LOADS as u64 * HIGHEST_HAUL as u64;
+
+#[test]
+fn the_parts_of_a_sum() {
+    assert_eq!([sum(0), sum(1 << 8), sum(10 << 8)], [Ok(0), Ok(1), Ok(10)]);
+    assert_eq!(sum(HIGHEST_SUM << 8), Ok(2_610_000_000));
+    assert_eq!(sum(u64::MAX << 8), Ok(0xFF_FFFF_FFFF_FFFF));
+    assert_eq!([sum(15), sum(16)], [Err(15), Err(16)]);
+}
+
+fn whole_floor(sheet: &[u8], offers: &[u8]) -> u64 {
+    unsafe { raw::planner_floor(sheet.as_ptr(), sheet.len(), 0, [].as_ptr(), 0, offers.as_ptr(), offers.len()) }
+}
+
+/// 20 times 2,500,000 is the highest fee, which farm 0 offers beside its haul, and the others offer theirs.
+#[test]
+fn the_whole_results_of_offers() {
+    let s = Table::s().sheet();
+    let of_s = [[2, 5, 3], [0, 0, 0], [2, 5, 4]].map(|amounts| whole_floor(&s, &offers(&amounts)));
+    assert_eq!(of_s, [10 << 8, 0, 16]);
+    assert_eq!([whole_floor(&s, &[]), whole_floor(&s[1..], &[])], [15, 1]);
+    assert_eq!(super::floor(&s, &offers(&[2, 5, 3])), Ok(10));
+    let loads = vec![MOST_LOADS; MOST_FARMS];
+    let dearest = Table { loads, ..Table::even(1, MOST_FARMS, HIGHEST_FEE, HIGHEST_HAUL) }.sheet();
+    let mut amounts = [HIGHEST_HAUL; MOST_FARMS];
+    amounts[0] += 2_500_000;
+    assert_eq!(whole_floor(&dearest, &offers(&amounts)), HIGHEST_SUM << 8);
+    amounts[MOST_FARMS - 1] += 1;
+    assert_eq!(whole_floor(&dearest, &offers(&amounts)), 16);
 }
 
 fn whole_second(sheet: &[u8], set: u32, farm: usize) -> u64 {

@@ -1,5 +1,7 @@
-//! Document 01, with papers 1, 2, 3 and 5 of document 02, written a second time, sentence by sentence and in its order, to compare
-//! the proved library with. Plain before fast: every question is asked over the whole sheet and every move is priced from nothing.
+//! Document 01, with papers 1, 2, 3, 5 and 10 of document 02, written a second time, sentence by sentence and in its order, to
+//! compare the proved library with. Plain before fast: every question is asked over the whole sheet and every move is priced from
+//! nothing.
+mod floor;
 mod haul_sheet;
 mod plan_area;
 mod questions;
@@ -13,6 +15,7 @@ use crate::{Answer, Counts, Tariff, Written};
 use questions::{ask, ask_1_to_4, ask_1_to_6, question_7, question_8, question_9};
 use search::Settled;
 
+pub use floor::floor_by;
 pub use search::{ChosenBy, Move};
 pub use shut::{second_by, shut_by};
 

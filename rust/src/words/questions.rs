@@ -1,5 +1,5 @@
-//! The questions put to a call by their numbers, in the words of document 01 and, for loads, tariffs and a yard that shuts, of
-//! papers 2, 3 and 5 of document 02.
+//! The questions that the tool's calls ask, by their numbers, in the words of document 01 and, for loads, tariffs and a yard that
+//! shuts, of papers 2, 3 and 5 of document 02. The tool is given no offers (paper 10), which 15 and 16 are about.
 
 pub const QUESTIONS: [&str; 14] = [
     "Is the length a multiple of 8, from 16 to 33,024 bytes?",

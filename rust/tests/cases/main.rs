@@ -1,6 +1,7 @@
-//! Document 01's cases beside the marked ones, ties, loads, tariffs, yards that shut, and sheets and calls with several faults at once: each
-//! sheet is built here, and what the calls answer and leave in the area makes a line. The file `lines` has the lines that must
-//! come, and `shut_lines` those of yards that shut, checked by hand.
+//! Document 01's cases beside the marked ones, ties, loads, tariffs, yards that shut, offers, and sheets and calls with several faults at
+//! once: each sheet is built here, and what the calls answer and leave in the area makes a line. The file `lines` has the lines that
+//! must come, `shut_lines` those of yards that shut and `floor_lines` those of offers, checked by hand.
+mod floor;
 mod loads;
 mod planning;
 mod reading;
@@ -16,6 +17,9 @@ const LINE_COUNT: usize = 217;
 
 const SHUT_MUST_COME: &str = include_str!("shut_lines");
 const SHUT_LINE_COUNT: usize = 114;
+
+const FLOOR_MUST_COME: &str = include_str!("floor_lines");
+const FLOOR_LINE_COUNT: usize = 51;
 
 /// How an implementation gives a farm's stretch.
 type FarmHauls = fn(&[u8], usize) -> Vec<u8>;
@@ -41,6 +45,11 @@ fn compare_shut(calls: &ShutCalls) {
     compare_lines(calls.name, &shut::all(calls), &SHUT_MUST_COME.lines().collect::<Vec<_>>());
 }
 
+fn compare_floor(calls: &Calls) {
+    assert_eq!(FLOOR_MUST_COME.lines().count(), FLOOR_LINE_COUNT, "lines in the file");
+    compare_lines(calls.name, &floor::all(calls), &FLOOR_MUST_COME.lines().collect::<Vec<_>>());
+}
+
 /// Compares line by line, and shows every difference before it fails.
 fn compare_lines(name: &str, came: &[String], must_come: &[&str]) {
     assert_eq!(came.len(), must_come.len(), "{name}: lines that came");
@@ -58,16 +67,19 @@ fn compare_lines(name: &str, came: &[String], must_come: &[&str]) {
 fn the_library_gives_the_lines() {
     compare(&LIBRARY, Some(library_farm_hauls));
     compare_shut(&SHUT_LIBRARY);
+    compare_floor(&LIBRARY);
 }
 
 #[test]
 fn the_literal_program_gives_the_lines() {
     compare(&LITERAL, Some(|sheet, farm| literal::farm_hauls(sheet, farm).to_vec()));
     compare_shut(&SHUT_LITERAL);
+    compare_floor(&LITERAL);
 }
 
 /// It has no call for a farm's stretch and none for a yard that shuts.
 #[test]
 fn the_fast_program_gives_the_lines() {
     compare(&FAST, None);
+    compare_floor(&FAST);
 }

@@ -1,6 +1,8 @@
 //! Sheets for the cases: document 01's S, sheets with one fee and one haul throughout, and what goes into them.
-use planner::format::{record, HAUL, RECORD, YARD};
+use crate::tariffs::{d, tariff_of};
+use planner::format::{record, HAUL, HIGHEST_FEE, RECORD, YARD};
 use planner::table::Table;
+use planner::Tariff::{self, Given};
 
 pub type Record = [u8; RECORD];
 
@@ -94,4 +96,23 @@ pub fn paper_1_table() -> Table {
 pub fn equal_hauls() -> Vec<u8> {
     let hauls = vec![vec![3, 3, 3], vec![1, 7, 7], vec![7, 1, 7], vec![7, 7, 1], vec![3, 3, 5]];
     Table::new(vec![4, 2, 2], hauls).sheet()
+}
+
+/// The lines of a sheet for each number that reading gives, by a tariff where it takes one.
+pub fn unread_sheets(lines: impl Fn(&str, &[u8], Tariff) -> Vec<String>) -> Vec<String> {
+    let fault = |at, record| changed_s(&[(at, record)], S_LENGTH);
+    let (rising, short) = (tariff_of(&[(100, 3), (1000, 4)]), tariff_of(&[(100, 3), (899, 0)]));
+    let cases = [
+        ("half a record of a tariff", d().sheet(), Given(&rising[..4])),
+        ("rising rates", d().sheet(), Given(&rising)),
+        ("S cut short", of_length(s(), S_LENGTH - 1), Tariff::None),
+        ("kind 5a", fault(yard_place(1), record(KIND_5A, 1, 0, 4)), Tariff::None),
+        ("a yard among the hauls", fault(haul_place(1, 0), yard(3, 5)), Tariff::None),
+        ("another farm's number", fault(haul_place(1, 0), haul(2, 0, 5)), Tariff::None),
+        ("21 loads", s_with_loads([0, 21, 0]), Tariff::None),
+        ("a distance too far", d().sheet(), Given(&short)),
+        ("a fee too high", fault(yard_place(0), yard(0, HIGHEST_FEE + 1)), Tariff::None),
+        ("the rule broken", fault(haul_place(0, 2), haul(0, 2, 10)), Tariff::None),
+    ];
+    cases.iter().flat_map(|(name, sheet, tariff)| lines(name, sheet, *tariff)).collect()
 }

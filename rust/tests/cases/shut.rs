@@ -3,13 +3,10 @@
 //! What the sets of S cost is in `loads`, what those of D by the house tariff cost in `tariffs`: a change is the cost of the set
 //! without the yard less that of the set. On the sheet `equal_hauls` all three yards cost 8 + 9, {1, 2} 4 + 15, {0, 2} 6 + 15 and {0, 1}
 //! 6 + 15.
-use crate::sheets::{
-    changed_s, equal_hauls, even, haul, haul_place, of_length, paper_1, paper_1_table, s, s_with_loads, yard,
-    yard_place, KIND_5A, S_LENGTH,
-};
-use crate::tariffs::{d, t, tariff_of};
+use crate::sheets::{equal_hauls, even, paper_1, paper_1_table, s, s_with_loads, unread_sheets};
+use crate::tariffs::{d, t};
 use planner::calls::ShutCalls;
-use planner::format::{record, HIGHEST_FEE, HIGHEST_HAUL, MOST_FARMS, MOST_LOADS, MOST_YARDS};
+use planner::format::{HIGHEST_FEE, HIGHEST_HAUL, MOST_FARMS, MOST_LOADS, MOST_YARDS};
 use planner::table::Table;
 use planner::Tariff::{self, Given, House};
 
@@ -145,22 +142,7 @@ fn by_tariffs(calls: &ShutCalls) -> Vec<String> {
 
 /// What reading asks comes before 8 and 14.
 fn unread(calls: &ShutCalls) -> Vec<String> {
-    let fault = |at, record| changed_s(&[(at, record)], S_LENGTH);
-    let (rising, short) = (tariff_of(&[(100, 3), (1000, 4)]), tariff_of(&[(100, 3), (899, 0)]));
-    let cases = [
-        ("half a record of a tariff", d().sheet(), Given(&rising[..4])),
-        ("rising rates", d().sheet(), Given(&rising)),
-        ("S cut short", of_length(s(), S_LENGTH - 1), Tariff::None),
-        ("kind 5a", fault(yard_place(1), record(KIND_5A, 1, 0, 4)), Tariff::None),
-        ("a yard among the hauls", fault(haul_place(1, 0), yard(3, 5)), Tariff::None),
-        ("another farm's number", fault(haul_place(1, 0), haul(2, 0, 5)), Tariff::None),
-        ("21 loads", s_with_loads([0, 21, 0]), Tariff::None),
-        ("a distance too far", d().sheet(), Given(&short)),
-        ("a fee too high", fault(yard_place(0), yard(0, HIGHEST_FEE + 1)), Tariff::None),
-        ("the rule broken", fault(haul_place(0, 2), haul(0, 2, 10)), Tariff::None),
-    ];
-    let lines = |(name, sheet, tariff): (&str, Vec<u8>, Tariff)| {
-        [second(calls, name, &sheet, tariff, 0, 0), shut(calls, name, &sheet, tariff, 0, usize::MAX)]
-    };
-    cases.into_iter().flat_map(lines).collect()
+    unread_sheets(|name, sheet, tariff| {
+        vec![second(calls, name, sheet, tariff, 0, 0), shut(calls, name, sheet, tariff, 0, usize::MAX)]
+    })
 }

@@ -136,6 +136,18 @@ pub fn check_shut(sheet: &[u8], set: u32, yard: usize, answer: Answer<i64>) {
     }
 }
 
+/// One record of kind 56 hex for each farm.
+pub fn offers(amounts: &[u32]) -> Vec<u8> {
+    amounts.iter().enumerate().flat_map(|(farm, &amount)| record(0x56, 0, farm, amount)).collect()
+}
+
+/// These offers are answered so.
+pub fn check_floor(sheet: &[u8], offers: &[u8], answer: Answer<u64>) {
+    for calls in &ALL {
+        assert_eq!((calls.floor_by)(sheet, Tariff::None, offers), answer, "{} {offers:?}", calls.name);
+    }
+}
+
 /// Every call is refused with this number, even where a later question would be answered no too.
 pub fn check_sheet_refused(sheet: &[u8], number: u8) {
     for calls in &ALL {
@@ -157,4 +169,6 @@ pub fn check_sheet_refused(sheet: &[u8], number: u8) {
         }
         check_shut(sheet, set, 0, Err(number));
     }
+    check_floor(sheet, &[], Err(number));
+    check_floor(sheet, &offers(&[u32::MAX]), Err(number));
 }

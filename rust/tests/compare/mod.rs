@@ -1,5 +1,7 @@
 //! Every call on one sheet, without a tariff or by one: the proved library against the other implementations, area and all, byte for
-//! byte. `fast` is among them so that the benchmark's times are those of the same answers. `shut` has the calls of paper 5.
+//! byte. `fast` is among them so that the benchmark's times are those of the same answers. `shut` has the calls of paper 5, `floor`
+//! that of paper 10.
+mod floor;
 mod loads;
 mod shut;
 mod tally;
@@ -80,6 +82,7 @@ impl<'a> Comparison<'a> {
             Err(_) => self.refusals(),
         }
         self.shutting(counts.ok());
+        self.floors(counts);
         assert!(self.before == self.sample.sheet, "a call wrote to the sheet; {}", self.sheet());
         let tariff_after = self.tariff.map(|tariff| tariff.bytes.clone());
         assert!(tariff_before == tariff_after, "a call wrote to the tariff; {}", self.sheet());

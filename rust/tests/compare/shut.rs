@@ -9,7 +9,7 @@ use std::cmp::Ordering;
 use std::fmt::Debug;
 
 /// On a large sheet, one call in so many is put to the second program.
-const RARELY: u64 = 60;
+pub const RARELY: u64 = 60;
 
 /// What is counted over these calls.
 #[derive(Clone, Copy)]
@@ -59,10 +59,6 @@ impl Shut {
 
     pub fn facts(&self) -> [(&'static str, u64); FACTS.len()] {
         FACTS.map(|(fact, text)| (text, self.facts[fact as usize]))
-    }
-
-    pub fn print(&self) {
-        self.facts().iter().for_each(|(text, count)| println!("{text}: {count}"));
     }
 }
 
@@ -177,7 +173,7 @@ impl Comparison<'_> {
     }
 
     /// The library's plan of a set, or the number with which it refuses sheet or set.
-    fn own_plan(&self, set: u32) -> Answer<Vec<u8>> {
+    pub fn own_plan(&self, set: u32) -> Answer<Vec<u8>> {
         let mut area = vec![0; MOST_AREA];
         let written = library::price_by(&self.sample.sheet, self.given(), set, &mut area)?;
         area.truncate(written.bytes);
@@ -196,7 +192,7 @@ fn no_farms(farms: usize) -> Vec<usize> {
     vec![farms, farms + 1, MOST_FARMS, 255, 256, 1 << 32, usize::MAX]
 }
 
-fn total(plan: &[u8]) -> i64 {
+pub fn total(plan: &[u8]) -> i64 {
     let record = plan.chunks_exact(RECORD).find(|record| record[0] == TOTAL).expect("a plan has its total");
     amount(record).into()
 }

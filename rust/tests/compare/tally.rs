@@ -1,4 +1,5 @@
 //! How many calls were compared, by call and by answer, and how many farms of their plans, by what their yard was chosen by.
+use super::floor::Floor;
 use super::loads::Loads;
 use super::shut::Shut;
 use super::tariffs::Tariffs;
@@ -13,6 +14,7 @@ pub enum Name {
     LimitedPlan,
     Second,
     Shut,
+    Floor,
 }
 
 impl Name {
@@ -25,17 +27,20 @@ impl Name {
     }
 }
 
-pub const NAMES: [Name; 6] = [Name::Read, Name::Price, Name::OpenPlan, Name::LimitedPlan, Name::Second, Name::Shut];
+pub const NAMES: [Name; 7] =
+    [Name::Read, Name::Price, Name::OpenPlan, Name::LimitedPlan, Name::Second, Name::Shut, Name::Floor];
 
 #[derive(Default)]
 pub struct Tally {
     /// For each call, how often it was accepted (place 0) and refused with each number.
-    answers: [[u64; 15]; NAMES.len()],
+    answers: [[u64; 17]; NAMES.len()],
     /// For each call, the farms of its plans by `ChosenBy`.
     chosen: [[u64; 3]; NAMES.len()],
     pub loads: Loads,
     /// Of second yards and of yards that shut.
     pub shut: Shut,
+    /// Of offers.
+    pub floor: Floor,
     /// Of calls by a tariff.
     pub tariffs: Tariffs,
     /// Of all accepted calls.
@@ -63,7 +68,7 @@ impl Tally {
         }
     }
 
-    /// Calls of reading, pricing, plans and paper 5; the many calls for the length or a byte of a stretch are not among them.
+    /// Calls of reading, pricing, plans and papers 5 and 10; the many calls for the length or a byte of a stretch are not among them.
     pub fn calls(&self) -> u64 {
         self.answers.iter().flatten().sum()
     }
@@ -78,6 +83,11 @@ impl Tally {
         [Name::Price, Name::OpenPlan, Name::LimitedPlan].map(|name| (name, self.chosen[name as usize]))
     }
 
+    /// What is counted over the calls of papers 5 and 10.
+    pub fn facts(&self) -> Vec<(&'static str, u64)> {
+        self.shut.facts().into_iter().chain(self.floor.facts()).collect()
+    }
+
     pub fn print(&self) {
         println!("{} calls, each accepted and refused with 1, 2, 3 and so on:", self.calls());
         for name in NAMES {
@@ -89,7 +99,7 @@ impl Tally {
             println!("{:>12} {chosen:?}", format!("{name:?}"));
         }
         self.loads.print();
-        self.shut.print();
+        self.facts().iter().for_each(|(text, count)| println!("{text}: {count}"));
         self.tariffs.print();
         let Tally { moves, whole_stretches, empty_stretches, bytes, .. } = self;
         println!("{moves} moves");

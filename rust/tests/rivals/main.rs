@@ -1,6 +1,7 @@
 //! Demand 3 on small sheets, against every rival: our list is the yards in the plan's records of kind 4F, and both buyers are
 //! priced by the sheet's own prices, with the same loads and by the same tariff or none, never by the printed total. Also that no
-//! move is left that lowers the cost of our list.
+//! move is left that lowers the cost of our list. `floors` has the sums of offers.
+mod floors;
 mod prices;
 mod worst;
 
@@ -174,7 +175,7 @@ fn changed(random: &mut Random, table: &Table, loads_too: bool, unit: u32) -> Ta
     table
 }
 
-/// Both lists, for every k, against every rival.
+/// Both lists, for every k, and floors against every rival.
 fn compared(sheet: &[u8], yards: usize, tariff: Option<&TariffSample>, name: &str) -> Seen {
     let prices = Prices::of(sheet, yards, tariff);
     let with_loads = loads(sheet, yards).iter().any(|&loads| loads > 1);
@@ -185,6 +186,7 @@ fn compared(sheet: &[u8], yards: usize, tariff: Option<&TariffSample>, name: &st
     for k in 1..=yards {
         limited_list(&prices, k, plan(PlanCall::LimitedPlan { k }), name, &mut seen);
     }
+    floors::floors(sheet, tariff, &prices, name, &mut seen);
     seen.name(name);
     seen
 }

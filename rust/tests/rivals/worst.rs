@@ -43,17 +43,25 @@ pub struct Seen {
     pub open_fees: Worst,
     pub open_total: Worst,
     pub limited_hauls: Worst,
+    /// The sum of offers and the rival's full cost; the same where all fees are one.
+    pub floor: Worst,
+    pub limited_floor: Worst,
     pub sheets: u64,
     /// Those of them with a farm of more than one load.
     pub with_loads: u64,
     pub rivals_of_open: u64,
     pub rivals_of_limited: u64,
+    /// Sums of offers that were compared, those of them that some rival just pays, and the rivals of all.
+    pub floors: u64,
+    pub floors_met: u64,
+    pub rivals_of_floors: u64,
 }
 
 impl Seen {
     /// All ratios seen so far are of this sheet.
     pub fn name(&mut self, sheet: &str) {
-        for worst in [&mut self.open_hauls, &mut self.open_fees, &mut self.open_total, &mut self.limited_hauls] {
+        let lists = [&mut self.open_hauls, &mut self.open_fees, &mut self.open_total, &mut self.limited_hauls];
+        for worst in lists.into_iter().chain([&mut self.floor, &mut self.limited_floor]) {
             worst.sheet = sheet.to_string();
         }
     }
@@ -63,19 +71,26 @@ impl Seen {
         self.open_fees.take_in(other.open_fees);
         self.open_total.take_in(other.open_total);
         self.limited_hauls.take_in(other.limited_hauls);
+        self.floor.take_in(other.floor);
+        self.limited_floor.take_in(other.limited_floor);
         self.sheets += other.sheets;
         self.with_loads += other.with_loads;
         self.rivals_of_open += other.rivals_of_open;
         self.rivals_of_limited += other.rivals_of_limited;
+        self.floors += other.floors;
+        self.floors_met += other.floors_met;
+        self.rivals_of_floors += other.rivals_of_floors;
     }
 
-    /// So many sheets were compared, enough of them with loads, and on average at least as many rivals of each list as a sheet of two yards has.
+    /// So many sheets were compared, enough of them with loads, and on average at least as many rivals of each list and of sums of offers as
+    /// a sheet of two yards has.
     pub fn enough(&self, least_sheets: u64) {
-        let Seen { sheets, with_loads, rivals_of_open, rivals_of_limited, .. } = self;
+        let Seen { sheets, with_loads, rivals_of_open, rivals_of_limited, rivals_of_floors, .. } = self;
         assert!(*sheets >= least_sheets, "{sheets} sheets");
         assert!(100 * with_loads >= LEAST_WITH_LOADS * sheets, "{with_loads} of {sheets} sheets with loads");
         assert!(*rivals_of_open >= 3 * sheets, "{rivals_of_open} rivals of open lists");
         assert!(*rivals_of_limited >= 3 * sheets, "{rivals_of_limited} rivals of limited lists");
+        assert!(*rivals_of_floors >= 3 * sheets, "{rivals_of_floors} rivals of sums of offers");
     }
 
     pub fn print(&self) {
@@ -83,7 +98,11 @@ impl Seen {
         self.open_fees.print("open fees to the rival's fees and twice its hauls, at most 1");
         self.open_total.print("open total to the rival's, at most 3");
         self.limited_hauls.print("limited hauls to the rival's, at most 5");
+        self.floor.print("sum of offers to the rival's full cost, at most 1");
+        self.limited_floor.print("sum of offers at one fee to the rival's full cost, at most 1");
         let Seen { sheets, with_loads, rivals_of_open, rivals_of_limited, .. } = self;
         println!("{sheets} sheets, {with_loads} with loads, {rivals_of_open} rivals of open lists, {rivals_of_limited} of limited lists");
+        let Seen { floors, floors_met, rivals_of_floors, .. } = self;
+        println!("{rivals_of_floors} rivals of {floors} sums of offers, {floors_met} of which some rival just pays");
     }
 }

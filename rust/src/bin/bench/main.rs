@@ -1,4 +1,4 @@
-//! How long each call takes: the proved library (ours), document 01 with papers 1, 2, 3 and 5 to the letter (literal), and plain
+//! How long each call takes: the proved library (ours), document 01 with papers 1, 2, 3, 5 and 10 to the letter (literal), and plain
 //! Rust made for speed (fast), its sums of 64 bits as the library's are, or of 32. Before a call is timed, all must give
 //! the same answers and the same areas.
 mod calls;
@@ -12,7 +12,7 @@ use planner::calls::PlanCall;
 use planner::format::{MOST_FARMS, MOST_LOADS, MOST_YARDS};
 use planner::samples::{self, Sample};
 use planner::Tariff;
-use printing::{print_call, print_four_loops, print_heading, print_shut};
+use printing::{print_call, print_floor, print_four_loops, print_heading, print_shut};
 use std::process::ExitCode;
 use timing::{LONG_PASSES, PASSES};
 
@@ -38,6 +38,7 @@ fn bench() -> Result<(), String> {
     for call in CALLS {
         line(&call.name(), call, &full, None)?;
     }
+    print_floor(&full)?;
     print_four_loops(&full)?;
     print_shut(&full)?;
     print_heading("The same sheets without loads");

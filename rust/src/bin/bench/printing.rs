@@ -2,8 +2,10 @@
 use crate::calls::{Call, SIXTEEN_YARDS};
 use crate::timing::{time, OnSheet, LONG_PASSES, PASSES};
 use planner::calls::{Calls, ALL};
-use planner::format::MOST_YARDS;
-use planner::samples::Sample;
+use planner::format::{offers, MOST_YARDS};
+use planner::random::Random;
+use planner::samples::{tight_offers, Sample};
+use planner::table::Table;
 use planner::{four_loops, library, literal, Tariff};
 use std::hint::black_box;
 
@@ -20,15 +22,41 @@ pub fn print_call(name: &str, call: Call, inputs: &[Sample]) {
             black_box(call.put_to(calls, black_box(&inputs[at].sheet), area));
         }
     });
-    let calls: [(OnSheet, usize); 4] = [(&ours, PASSES), (&literal, LONG_PASSES), (&fast, PASSES), (&fast_32, PASSES)];
-    let times = time(calls, inputs.len());
+    print_times(name, [&ours, &literal, &fast, &fast_32], inputs.len(), call.narrower());
+}
+
+/// The times of a call of the implementations on so many sheets, in the order of `ALL`.
+fn print_times(name: &str, [ours, literal, fast, fast_32]: [OnSheet; 4], sheets: usize, narrower: Option<&str>) {
+    let calls = [(ours, PASSES), (literal, LONG_PASSES), (fast, PASSES), (fast_32, PASSES)];
+    let times = time(calls, sheets);
     let [ours, literal, fast, fast_32] = [0, 1, 2, 3].map(|of| mean(&times, of));
     let (by_literal, by_fast) = (ratios(&times, 0, 1, 4), ratios(&times, 0, 2, 2));
     println!("{name:<40} {ours:>9.2} {literal:>11.2} {fast:>9.2}   {by_literal:<28} {by_fast}");
-    if let Some(narrower) = call.narrower() {
+    if let Some(narrower) = narrower {
         let by_fast_32 = ratios(&times, 0, 3, 2);
         println!("{narrower:<40} {:>9} {:>11} {fast_32:>9.2}   {:<28} {by_fast_32}", "", "", "");
     }
+}
+
+/// Paper 10 of document 02: the sum of tight offers, which all must accept.
+pub fn print_floor(inputs: &[Sample]) -> Result<(), String> {
+    let tight = |(seed, input): (u64, &Sample)| {
+        offers(&tight_offers(&mut Random::new(seed), &Table::of_sheet(&input.sheet, MOST_YARDS)))
+    };
+    let offers: &Vec<Vec<u8>> = &(0..).zip(inputs).map(tight).collect();
+    for (input, offers) in inputs.iter().zip(offers) {
+        let [ours, others @ ..] = ALL.map(|calls| (calls.floor_by)(&input.sheet, Tariff::None, offers));
+        if ours.is_err() || others != [ours; 3] {
+            return Err(format!("floor of {}: library {ours:?}, others {others:?}", input.name));
+        }
+    }
+    let [ours, literal, fast, fast_32] = ALL.map(|calls| {
+        move |at: usize, _: &mut [u8]| {
+            black_box((calls.floor_by)(black_box(&inputs[at].sheet), Tariff::None, black_box(&offers[at]))).ok();
+        }
+    });
+    print_times("floor", [&ours, &literal, &fast, &fast_32], inputs.len(), None);
+    Ok(())
 }
 
 /// Paper 4 of document 02: question 6 alone by four loops in plain Rust, on a table already read, against our whole reading.

@@ -4,7 +4,7 @@ use native.Mathlib.Omega.{arith}
 use mathlib.Core.Path.{ap, _∙_}
 use Rattle.record.specs.Records.{recordOf, splice}
 use Rattle.plan_area.proofs.FarmNearestLaws.{farm-listed}
-use Rattle.plan_area.proofs.SheetCostLaws.{loads-small}
+use Rattle.questions.proofs.AmountLaws.{loads-small}
 use Rattle.record.proofs.WriteLaws.{put-one}
 use Rattle.plan_area.proofs.PlanRecordLaws.{farm-on, farm-from}
 use borrow.Author.Needs.{needs}

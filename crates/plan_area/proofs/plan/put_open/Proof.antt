@@ -1,7 +1,7 @@
 -- `put_open` meets its contract: the record has the amount of the yard's record on the sheet.
 use mathlib.Core.Path.{sym, ap, _∙_}
 use Rattle.record.specs.Records.{recordOf, splice}
-use Rattle.plan_area.proofs.SheetCostLaws.{yard-fee}
+use Rattle.questions.proofs.AmountLaws.{yard-fee}
 use Rattle.record.proofs.WriteLaws.{put-one}
 use Rattle.plan_area.proofs.PlanRecordLaws.{open-on}
 use borrow.Author.Needs.{needs}

@@ -1,7 +1,7 @@
 -- `farm_moved` meets its contract: the two nearest yards on the farm's stretch, and its loads off the first record.
 use native.Mathlib.Nat.{lt-of-le-of-lt}
 use native.Mathlib.Omega.{arith}
-use Rattle.plan_area.proofs.SheetCostLaws.{loads-small}
+use Rattle.questions.proofs.AmountLaws.{loads-small}
 use Rattle.shut.proofs.MovedLaws.{stays, moves}
 use Prim.Native.Nat.{_<_}
 use borrow.Author.Needs.{needs}

@@ -1,0 +1,2 @@
+-- OfferingBy: what the call answers by a tariff.
+pub mod OfferingBy
