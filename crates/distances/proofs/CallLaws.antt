@@ -5,7 +5,8 @@ use native.Mathlib.Omega.{arith}
 use mathlib.Core.Bool.{Bool, true, false}
 use mathlib.Core.List.{List}
 use borrow.Author.Tests.{le-leb, lt-leb}
-use lib.ListN.{take}
+use lib.ListN.{length, take}
+use lib.Seq.{length-take-le}
 use Rattle.model.specs.Answers.{Answer, accepted, refused, ask, after}
 use Rattle.model.proofs.AnswerLaws.{same-result, not-both, passed-first}
 use Rattle.questions.specs.Bounds.{mostBytes}
@@ -18,7 +19,7 @@ use Rattle.tariff.specs.Questions.{question11, question12}
 use Rattle.tariff.specs.Reading.{bandsOf, tariffReading}
 use Rattle.tariff.specs.House.{house}
 use Rattle.distances.specs.Priced.{pricedSheet, question13, pricedBy, underTariff, underGiven, sheetBy, readingBy, OnHauls}
-use Rattle.distances.specs.Lent.{formed, sheetTold, haulsWithin}
+use Rattle.distances.specs.Lent.{formed, sheetTold, haulsWithin, FitsIn}
 use Rattle.distances.specs.declared.priced.HaulSheet.{HaulSheet}
 use Rattle.distances.specs.declared.priced.HaulSheet.the-variants.{AsWritten, Priced, Refused}
 
@@ -47,6 +48,14 @@ module _ (choice : TariffChoice) (tariff s : List ℕ) (room : ℕ) where
   pub short-room : room < mostBytes → haulsWithin room choice tariff s ≡ refused 0
   unfolding haulsWithin
   short-room short = ap (λ b. ask b 0 (sheetBy choice tariff s)) (lt-leb mostBytes room short)
+
+-- the part of the bytes lent that a priced sheet is: it lies within them, of which there are `size`, and is as long as told
+module _ (room size : ℕ) (long : size ≡ room) (bytes : ℕ) (r : HaulSheet) (e : r ≡ Priced bytes) (fits : FitsIn room r) where
+  pub part-within : bytes ≤ size
+  part-within = omega (arith, subst (FitsIn room) e fits)
+
+  pub part-length : (lent : List ℕ) → length lent ≡ size → bytes ≡ length (take bytes lent)
+  part-length lent all = sym (length-take-le bytes lent (omega (arith, part-within)))
 
 -- of the sheet that the answer r tells, in bytes lent that hold every sheet
 module _ (choice : TariffChoice) (tariff s : List ℕ) (room : ℕ) (enough : mostBytes ≤ room) (r : HaulSheet) (lent : List ℕ)

@@ -1,10 +1,7 @@
 -- `limited_plan_by` meets its contract: the plan is made on the sheet of hauls, or the refusal handed on.
-use native.Mathlib.Omega.{arith}
-use mathlib.Core.Path.{sym, subst}
+use mathlib.Core.Path.{refl, sym}
 use lib.ListN.{length}
-use lib.Seq.{length-take-le}
-use Rattle.distances.specs.Lent.{FitsIn}
-use Rattle.distances.proofs.CallLaws.{as-written, as-priced, as-refused, on-written, on-priced, on-refused}
+use Rattle.distances.proofs.CallLaws.{part-within, part-length, as-written, as-priced, as-refused, on-written, on-priced, on-refused}
 use Rattle.price.proofs.PricingLaws.{refuses, as-outcome}
 use Rattle.search.specs.Planning.{limitedPlanning}
 use Rattle.by_tariff.specs.PlanningBy.{limitedPlanningBy}
@@ -30,12 +27,12 @@ enum-known-bytes : tie.Need-enum-known-bytes
 enum-known-bytes c = search needs
 
 array-share-prefix-hauls : tie.Need-array-share-prefix-hauls
-array-share-prefix-hauls c = let made = c .before .before .before .before .hauls-by in
-    omega (arith, subst (FitsIn _) (c .before .bytes .given .1) (made .ensures .1), c .before .before .before .hauls2 .given)
+array-share-prefix-hauls c = let told = c .before .before .before in
+    part-within _ _ (told .hauls2 .given) _ _ (c .before .bytes .given .1) (told .before .hauls-by .ensures .1)
 
 slice-aggregate-limited-plan : tie.Need-slice-aggregate-limited-plan
-slice-aggregate-limited-plan c = let made = c .before .before .before .before .before .hauls-by in
-    sym (length-take-le _ _ (omega (arith, subst (FitsIn _) (c .before .before .bytes .given .1) (made .ensures .1), c .before .before .before .before .hauls2 .given)))
+slice-aggregate-limited-plan c = let told = c .before .before .before .before in
+    part-length _ _ (told .hauls2 .given) _ _ (c .before .before .bytes .given .1) (told .before .hauls-by .ensures .1) _ refl
 
 limited-plan-requires-2 : tie.Need-limited-plan-requires-2
 limited-plan-requires-2 c κs = search needs

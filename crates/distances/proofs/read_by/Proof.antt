@@ -1,11 +1,8 @@
 -- `read_by` meets its contract: the sheet of hauls is read, or the refusal handed on.
-use native.Mathlib.Omega.{arith}
-use mathlib.Core.Path.{sym, subst, _∙_}
-use lib.Seq.{length-take-le}
+use mathlib.Core.Path.{refl, _∙_}
 use Rattle.questions.specs.Reading.{reading}
 use Rattle.distances.specs.Priced.{readingBy}
-use Rattle.distances.specs.Lent.{FitsIn}
-use Rattle.distances.proofs.CallLaws.{as-written, as-priced, as-refused, reading-first}
+use Rattle.distances.proofs.CallLaws.{part-within, part-length, as-written, as-priced, as-refused, reading-first}
 use borrow.Author.Needs.{needs}
 use Rattle.distances.proofs.read_by.Statement.{statement}
 use Rattle.distances.proofs.read_by.Tie as tie
@@ -26,12 +23,12 @@ enum-known-bytes : tie.Need-enum-known-bytes
 enum-known-bytes c = search needs
 
 array-share-prefix-hauls : tie.Need-array-share-prefix-hauls
-array-share-prefix-hauls c = let made = c .before .before .before .before .hauls-by in
-    omega (arith, subst (FitsIn _) (c .before .bytes .given .1) (made .ensures .1), c .before .before .before .hauls2 .given)
+array-share-prefix-hauls c = let told = c .before .before .before in
+    part-within _ _ (told .hauls2 .given) _ _ (c .before .bytes .given .1) (told .before .hauls-by .ensures .1)
 
 slice-aggregate-read : tie.Need-slice-aggregate-read
-slice-aggregate-read c = let made = c .before .before .before .before .before .hauls-by in
-    sym (length-take-le _ _ (omega (arith, subst (FitsIn _) (c .before .before .bytes .given .1) (made .ensures .1), c .before .before .before .before .hauls2 .given)))
+slice-aggregate-read c = let told = c .before .before .before .before in
+    part-length _ _ (told .hauls2 .given) _ _ (c .before .before .bytes .given .1) (told .before .hauls-by .ensures .1) _ refl
 
 read-requires-2 : tie.Need-read-requires-2
 read-requires-2 c κs = search needs

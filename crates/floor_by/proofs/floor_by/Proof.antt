@@ -1,9 +1,6 @@
 -- `floor_by` meets its contract: the sum is that on the sheet of hauls, or the refusal is handed on.
-use native.Mathlib.Omega.{arith}
-use mathlib.Core.Path.{sym, subst, _∙_}
-use lib.Seq.{length-take-le}
-use Rattle.distances.specs.Lent.{FitsIn}
-use Rattle.distances.proofs.CallLaws.{as-written, as-priced, as-refused}
+use mathlib.Core.Path.{refl, _∙_}
+use Rattle.distances.proofs.CallLaws.{part-within, part-length, as-written, as-priced, as-refused}
 use Rattle.floor.specs.Offering.{offering}
 use Rattle.floor_by.proofs.OfferingByLaws.{offering-first, answers-by}
 use borrow.Author.Needs.{needs}
@@ -26,12 +23,12 @@ enum-known-bytes : tie.Need-enum-known-bytes
 enum-known-bytes c = search needs
 
 array-share-prefix-hauls : tie.Need-array-share-prefix-hauls
-array-share-prefix-hauls c = let made = c .before .before .before .before .hauls-by in
-    omega (arith, subst (FitsIn _) (c .before .bytes .given .1) (made .ensures .1), c .before .before .before .hauls2 .given)
+array-share-prefix-hauls c = let told = c .before .before .before in
+    part-within _ _ (told .hauls2 .given) _ _ (c .before .bytes .given .1) (told .before .hauls-by .ensures .1)
 
 slice-aggregate-floor : tie.Need-slice-aggregate-floor
-slice-aggregate-floor c = let made = c .before .before .before .before .before .hauls-by in
-    sym (length-take-le _ _ (omega (arith, subst (FitsIn _) (c .before .before .bytes .given .1) (made .ensures .1), c .before .before .before .before .hauls2 .given)))
+slice-aggregate-floor c = let told = c .before .before .before .before in
+    part-length _ _ (told .hauls2 .given) _ _ (c .before .before .bytes .given .1) (told .before .hauls-by .ensures .1) _ refl
 
 floor-requires-2 : tie.Need-floor-requires-2
 floor-requires-2 c κs = search needs

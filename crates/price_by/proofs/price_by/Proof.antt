@@ -1,10 +1,7 @@
 -- `price_by` meets its contract: the set is priced on the sheet of hauls, or the refusal handed on.
-use native.Mathlib.Omega.{arith}
-use mathlib.Core.Path.{_≡_, sym, subst}
+use mathlib.Core.Path.{refl, _≡_, sym}
 use lib.ListN.{length}
-use lib.Seq.{length-take-le}
-use Rattle.distances.specs.Lent.{FitsIn}
-use Rattle.distances.proofs.CallLaws.{as-written, as-priced, as-refused}
+use Rattle.distances.proofs.CallLaws.{part-within, part-length, as-written, as-priced, as-refused}
 use Rattle.price.specs.Pricing.{pricing}
 use Rattle.price_by.specs.PricingBy.{pricingBy}
 use Rattle.price.proofs.PricingLaws.{refuses, as-outcome}
@@ -30,12 +27,12 @@ enum-known-bytes : tie.Need-enum-known-bytes
 enum-known-bytes c = search needs
 
 array-share-prefix-hauls : tie.Need-array-share-prefix-hauls
-array-share-prefix-hauls c = let made = c .before .before .before .before .hauls-by in
-    omega (arith, subst (FitsIn _) (c .before .bytes .given .1) (made .ensures .1), c .before .before .before .hauls2 .given)
+array-share-prefix-hauls c = let told = c .before .before .before in
+    part-within _ _ (told .hauls2 .given) _ _ (c .before .bytes .given .1) (told .before .hauls-by .ensures .1)
 
 slice-aggregate-price : tie.Need-slice-aggregate-price
-slice-aggregate-price c = let made = c .before .before .before .before .before .hauls-by in
-    sym (length-take-le _ _ (omega (arith, subst (FitsIn _) (c .before .before .bytes .given .1) (made .ensures .1), c .before .before .before .before .hauls2 .given)))
+slice-aggregate-price c = let told = c .before .before .before .before in
+    part-length _ _ (told .hauls2 .given) _ _ (c .before .before .bytes .given .1) (told .before .hauls-by .ensures .1) _ refl
 
 price-requires-2 : tie.Need-price-requires-2
 price-requires-2 c κs = search needs

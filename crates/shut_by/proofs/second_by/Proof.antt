@@ -1,9 +1,6 @@
 -- `second_by` meets its contract: the second yard is that on the sheet of hauls, or the refusal is handed on.
-use native.Mathlib.Omega.{arith}
-use mathlib.Core.Path.{sym, subst, _∙_}
-use lib.Seq.{length-take-le}
-use Rattle.distances.specs.Lent.{FitsIn}
-use Rattle.distances.proofs.CallLaws.{as-written, as-priced, as-refused}
+use mathlib.Core.Path.{refl, _∙_}
+use Rattle.distances.proofs.CallLaws.{part-within, part-length, as-written, as-priced, as-refused}
 use Rattle.shut.specs.Shutting.{seconding}
 use Rattle.shut_by.specs.ShuttingBy.{secondingBy}
 use Rattle.shut_by.proofs.ShuttingByLaws.{second-first}
@@ -27,12 +24,12 @@ enum-known-bytes : tie.Need-enum-known-bytes
 enum-known-bytes c = search needs
 
 array-share-prefix-hauls : tie.Need-array-share-prefix-hauls
-array-share-prefix-hauls c = let made = c .before .before .before .before .hauls-by in
-    omega (arith, subst (FitsIn _) (c .before .bytes .given .1) (made .ensures .1), c .before .before .before .hauls2 .given)
+array-share-prefix-hauls c = let told = c .before .before .before in
+    part-within _ _ (told .hauls2 .given) _ _ (c .before .bytes .given .1) (told .before .hauls-by .ensures .1)
 
 slice-aggregate-second : tie.Need-slice-aggregate-second
-slice-aggregate-second c = let made = c .before .before .before .before .before .hauls-by in
-    sym (length-take-le _ _ (omega (arith, subst (FitsIn _) (c .before .before .bytes .given .1) (made .ensures .1), c .before .before .before .before .hauls2 .given)))
+slice-aggregate-second c = let told = c .before .before .before .before in
+    part-length _ _ (told .hauls2 .given) _ _ (c .before .before .bytes .given .1) (told .before .hauls-by .ensures .1) _ refl
 
 second-requires-2 : tie.Need-second-requires-2
 second-requires-2 c κs = search needs

@@ -1,9 +1,6 @@
 -- `shut_by` meets its contract: the change is that on the sheet of hauls, or the refusal is handed on.
-use native.Mathlib.Omega.{arith}
-use mathlib.Core.Path.{sym, subst, _∙_}
-use lib.Seq.{length-take-le}
-use Rattle.distances.specs.Lent.{FitsIn}
-use Rattle.distances.proofs.CallLaws.{as-written, as-priced, as-refused}
+use mathlib.Core.Path.{refl, _∙_}
+use Rattle.distances.proofs.CallLaws.{part-within, part-length, as-written, as-priced, as-refused}
 use Rattle.shut.specs.Shutting.{shutting}
 use Rattle.shut_by.proofs.ShuttingByLaws.{shut-first, shut-answers-by}
 use borrow.Author.Needs.{needs}
@@ -26,12 +23,12 @@ enum-known-bytes : tie.Need-enum-known-bytes
 enum-known-bytes c = search needs
 
 array-share-prefix-hauls : tie.Need-array-share-prefix-hauls
-array-share-prefix-hauls c = let made = c .before .before .before .before .hauls-by in
-    omega (arith, subst (FitsIn _) (c .before .bytes .given .1) (made .ensures .1), c .before .before .before .hauls2 .given)
+array-share-prefix-hauls c = let told = c .before .before .before in
+    part-within _ _ (told .hauls2 .given) _ _ (c .before .bytes .given .1) (told .before .hauls-by .ensures .1)
 
 slice-aggregate-shut : tie.Need-slice-aggregate-shut
-slice-aggregate-shut c = let made = c .before .before .before .before .before .hauls-by in
-    sym (length-take-le _ _ (omega (arith, subst (FitsIn _) (c .before .before .bytes .given .1) (made .ensures .1), c .before .before .before .before .hauls2 .given)))
+slice-aggregate-shut c = let told = c .before .before .before .before in
+    part-length _ _ (told .hauls2 .given) _ _ (c .before .before .bytes .given .1) (told .before .hauls-by .ensures .1) _ refl
 
 shut-requires-2 : tie.Need-shut-requires-2
 shut-requires-2 c κs = search needs
