@@ -14,11 +14,11 @@ use Rattle.model.proofs.LoopLaws.{all-cong}
 use Rattle.model.proofs.SumLaws.{sum-none, sum-more}
 use Rattle.model.proofs.PlaceLaws.{same-most, ChangedTo, changed-more}
 use Rattle.record.specs.declared.Record.{Record}
-use Rattle.record.specs.Records.{recordAt, wholeRecordAt, amountAt, amountEnd}
+use Rattle.record.specs.Records.{recordAt, wholeRecordAt, amountAt}
 use Rattle.record.proofs.RecordLaws.{whole, part-amount}
 use Rattle.questions.specs.Sheet.{fee, haul, farmByte, loadsOf, instanceBy}
 use Rattle.questions.specs.Shape.{Shape}
-use Rattle.questions.proofs.AmountLaws.{loads-small}
+use Rattle.questions.proofs.AmountLaws.{fee-read}
 use Rattle.stretch.specs.Stretch.{stretch}
 use Rattle.stretch.proofs.FarmLaws.{stretch-length, stretch-record, byte-on}
 use Rattle.floor.specs.Offered.{offerTo, farmOffer, SumOf, Offered, coveredAt}
@@ -68,17 +68,13 @@ offer-more s m p offers a x excess below room e small h =
 -- ---- a yard's fee beside its sum
 
 module _ (s excess : List ℕ) (i : ℕ) (r : Record) (room : 8 * i + 8 ≤ length s) (read : r ≡ wholeRecordAt s i) where
-  fee-is : r .amount ≡ fee s i
-  unfolding fee
-  fee-is = ap (λ (x : Record). x .amount) (read ∙ whole s i room)
-
   pub not-covered : r .amount < getD excess i 0 → coveredAt s excess i ≡ false
   unfolding coveredAt
-  not-covered more = lt-leb (getD excess i 0) (fee s i) (omega (arith, fee-is))
+  not-covered more = lt-leb (getD excess i 0) (fee s i) (omega (arith, fee-read s i room r read))
 
   pub is-covered : getD excess i 0 ≤ r .amount → coveredAt s excess i ≡ true
   unfolding coveredAt
-  is-covered few = le-leb (getD excess i 0) (fee s i) (omega (arith, fee-is))
+  is-covered few = le-leb (getD excess i 0) (fee s i) (omega (arith, fee-read s i room r read))
 
 -- ---- before the first farm, and behind the last
 

@@ -1,14 +1,12 @@
 -- Laws of the call: its cases, and that an accepted sum is a floor.
 use Prim.Native.Nat.{ℕ, _*_, _≤_}
 use native.Mathlib.Omega.{arith}
-use mathlib.Core.Path.{_≡_, refl, sym, ap, subst, _∙_}
-use mathlib.Core.Bool.{Bool, true, false}
+use mathlib.Core.Path.{_≡_, sym, ap, _∙_}
+use mathlib.Core.Bool.{true, false}
 use mathlib.Core.List.{List}
 use borrow.Author.Tests.{eq-eqb, ne-eqb, eqb-true}
 use lib.ListN.{length}
 use Rattle.model.specs.Loops.{allBelow}
-use Rattle.model.specs.Instance.{Instance}
-use Rattle.model.specs.Least.{any}
 use Rattle.model.specs.Floor.{feasible, floor}
 use Rattle.model.specs.Answers.{accepted, refused}
 use Rattle.model.proofs.AnswerLaws.{same-result, asked, passed-first}
@@ -20,7 +18,6 @@ use Rattle.questions.specs.Sheet.{yards, instanceBy, instanceOf}
 use Rattle.questions.specs.Reading.{counts, reading}
 use Rattle.questions.proofs.AcceptedLaws.{instance-is, accepts, facilities-are}
 use Rattle.floor.specs.declared.LowerBound.{LowerBound}
-use Rattle.floor.specs.declared.LowerBound.the-variants.{Cents, Refused}
 use Rattle.floor.specs.Offering.{boundAnswer, isOffer, offerInPlace, question15, question16, offering, UnderAll}
 
 -- ---- question 15

@@ -1,39 +1,90 @@
--- What a buyer reads off an accepted sum: it fits four bytes, no total that pricing writes is lower, a set that costs no more is the cheapest there is, and by the sum on a
+-- What 15 and 16 say in readable words, and what a buyer reads off an accepted sum: it fits four bytes, no total that pricing writes is lower, a set that costs no more is the cheapest there is, and by the sum on a
 -- copy of the sheet with equal fees no few yards haul for less.
 use Prim.Native.Nat.{ℕ, _+_, _-_, _*_, _/_, _≤_, _<_}
 use native.Mathlib.Nat.{le-trans}
 use native.Mathlib.Omega.{arith}
 use native.Mathlib.Decide.{decLt}
 use mathlib.Core.Path.{_≡_, refl, sym, ap, ap₂, _∙_}
-use mathlib.Core.Bool.{Bool, true}
+use mathlib.Core.Bool.{Bool, true, false}
 use mathlib.Core.List.{List}
+use borrow.Author.Tests.{eqb-true}
 use lib.ListN.{length}
 use lib.Dec.{eqb}
 use Rattle.model.specs.Loops.{leading}
 use Rattle.model.specs.Least.{any}
 use Rattle.model.specs.Sets.{count, member}
 use Rattle.model.specs.Instance.{Instance, serviceCost, totalCost}
-use Rattle.model.specs.Floor.{feasible, floor}
-use Rattle.model.specs.Answers.{accepted}
-use Rattle.model.proofs.AnswerLaws.{same-result, asked, passed-first}
-use Rattle.model.proofs.LoopLaws.{leading-holds, leading-cong}
+use Rattle.model.specs.Floor.{excessAt, feasible, floor}
+use Rattle.model.specs.Answers.{Answer, accepted, refused, ask, after}
+use Rattle.model.proofs.AnswerLaws.{same-result, not-both, asked, passed-first}
+use Rattle.model.proofs.Bools.{and-left, and-right}
+use Rattle.model.proofs.LoopLaws.{all-at, leading-holds, leading-cong}
 use Rattle.model.proofs.PlaceLaws.{row-within}
 use Rattle.model.proofs.LeastLaws.{any-of}
 use Rattle.model.proofs.CostLaws.{same-service}
-use Rattle.model.proofs.FloorLaws.{floor-under, floor-equal}
+use Rattle.model.proofs.FloorLaws.{feasible-when, not-feasible, overbid, floor-under, floor-equal}
 use Rattle.record.specs.declared.Record.{Record}
 use Rattle.record.specs.Records.{records, recordOf, recordAt, amountAt, amountEnd}
+use Rattle.record.proofs.RecordLaws.{record-is}
 use Rattle.questions.specs.Bounds.{yardKind}
 use Rattle.questions.specs.Sheet.{isYard, yards, hauls, farms, fee, place, haul, loadsByte, farmByte, loadsOf, instanceBy, instanceOf}
-use Rattle.questions.specs.Reading.{counts, reading}
+use Rattle.questions.specs.Reading.{Counts, counts, reading}
+use Rattle.questions.proofs.ReadingLaws.{refused-by}
 use Rattle.questions.proofs.AcceptedLaws.{WithinBounds, door, accepts, facilities-are, facilities-read}
 use Rattle.questions.proofs.CostBounds.{total-fits}
 use Rattle.plan_area.specs.Plan.{question9}
 use Rattle.price.specs.Pricing.{Plan, plan, question8, pricing}
 use Rattle.price.proofs.PricingLaws.{marked}
 use Rattle.floor.specs.declared.LowerBound.the-variants.{Cents}
-use Rattle.floor.specs.Offering.{offering, UnderAll}
+use Rattle.floor.specs.Offering.{offerKind, isOffer, offerInPlace, question15, question16, offering, UnderAll}
 use Rattle.floor.proofs.OfferingLaws.{passed}
+
+-- ---- what 15 and 16 say
+
+-- record p is the offer of farm p
+pub offer-record : (n : ℕ) (offers : List ℕ) → question15 n offers ≡ true → (p : ℕ) → p < n
+    → recordAt offers p ≡ recordOf offerKind 0 p 0 (amountAt offers p)
+unfolding question15 offerInPlace isOffer amountAt
+offer-record n offers h p l =
+    let r = recordAt offers p in
+    let all = all-at (offerInPlace offers) n p (and-right (eqb (length offers) (8 * n)) _ h) l in
+    let rest = and-right (eqb (r .kind) offerKind) _ all in
+    let last = and-right (eqb (r .yard) 0) _ rest in
+    record-is r offerKind 0 p 0 (eqb-true (r .kind) offerKind (and-left _ _ all)) (eqb-true (r .yard) 0 (and-left _ _ rest))
+    (eqb-true (r .farm) p (and-left _ _ last)) (eqb-true (r .byte3) 0 (and-right (eqb (r .farm) p) _ last))
+
+module _ (s offers : List ℕ) where
+  -- what yard i is offered
+  abbrev excess : ℕ → ℕ
+  excess i = excessAt (instanceOf s) (amountAt offers) i
+
+  module _ (m n : ℕ) (e : reading s ≡ accepted (counts m n)) (q : question15 n offers ≡ true) where
+    -- "It is accepted when at every yard the loads times the excess .. sum to at most the fee."
+    pub accepted-when : ((i : ℕ) → i < yards s → excess i ≤ fee s i) → offering s offers ≡ accepted (floor (instanceOf s) (amountAt offers))
+    unfolding offering question16 instanceOf instanceBy
+    accepted-when h = rw (e, q, feasible-when (instanceOf s) (amountAt offers) h)
+
+    -- "16 for a yard overbid"
+    pub refused-when : (i : ℕ) → i < yards s → fee s i < excess i → offering s offers ≡ refused 16
+    unfolding offering question16 instanceOf instanceBy
+    refused-when i l more = rw (e, q, overbid (instanceOf s) (amountAt offers) i l more)
+
+  -- and for nothing else
+  pub refused-by-16 : offering s offers ≡ refused 16 → (i : ℕ) × (i < yards s) × (fee s i < excess i)
+  unfolding offering question16 instanceOf instanceBy
+  refused-by-16 h = go (reading s) refl h
+    where
+      asked-last : (b c : Bool) → question16 s offers ≡ c → ask b 15 (ask c 16 (accepted (floor (instanceOf s) (amountAt offers)))) ≡ refused 16
+          → (i : ℕ) × (i < yards s) × (fee s i < excess i)
+      asked-last true true f k = absurd (not-both k)
+      asked-last true false f k = not-feasible (instanceOf s) (amountAt offers) f
+      asked-last false c f k = let same : _≡_ {A = ℕ} 15 16 = cc in absurd (omega arith)
+
+      go : (r : Answer Counts) → reading s ≡ r
+          → after r (λ c. ask (question15 (c .farms) offers) 15 (ask (question16 s offers) 16 (accepted (floor (instanceOf s) (amountAt offers))))) ≡ refused 16
+          → (i : ℕ) × (i < yards s) × (fee s i < excess i)
+      go (accepted c) f k = asked-last (question15 (c .farms) offers) (question16 s offers) refl k
+      go (refused j) f k = let same : j ≡ 16 = cc in absurd (omega (arith, refused-by s j f .1))
 
 -- ---- how high a sum is
 

@@ -16,6 +16,7 @@ use Rattle.model.proofs.LoopLaws.{leading-holds, all-at}
 use Rattle.model.proofs.PlaceLaws.{row-within}
 use Rattle.record.specs.declared.Record.{Record}
 use Rattle.record.specs.Records.{records, recordOf, recordAt}
+use Rattle.record.proofs.RecordLaws.{record-is}
 use Rattle.questions.specs.Bounds.{yardKind, haulKind, mostYards, mostFarms, mostLoads, mostFee, mostHaul}
 use Rattle.model.specs.Answers.{accepted}
 use Rattle.questions.specs.Sheet.{isYard, yards, hauls, farms, fee, place, haul, loadsByte, farmByte, instanceBy, instanceOf}
@@ -38,10 +39,6 @@ pub record HasForm (s : List ℕ) (m n : ℕ) : Type 0 where
   pub haul-record : (a p : ℕ) → a < m → p < n → recordAt s (place m p a) ≡ recordOf haulKind a p (loadsByte s m a p) (haul s m a p)
 
 -- ---- single records
-
-record-is : (r : Record) (kind yard farm byte3 : ℕ) → r .kind ≡ kind → r .yard ≡ yard → r .farm ≡ farm → r .byte3 ≡ byte3
-    → r ≡ recordOf kind yard farm byte3 (r .amount)
-record-is r kind yard farm byte3 k y f b = rw (← k, ← y, ← f, ← b)
 
 -- question 2 of a yard record
 yard-well-formed : (r : Record) → eqb (r .kind) yardKind ≡ true → wellFormed r ≡ true → (r .farm ≡ 0) × (r .byte3 ≡ 0)

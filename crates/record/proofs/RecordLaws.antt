@@ -20,6 +20,11 @@ pub not-whole : (s : List ℕ) (i : ℕ) → length s < 8 * i + 8 → wholeRecor
 unfolding wholeRecordAt
 not-whole s i h = rw (lt-leb (8 * i + 8) (length s) h)
 
+-- a record by its bytes
+pub record-is : (r : Record) (kind yard farm byte3 : ℕ) → r .kind ≡ kind → r .yard ≡ yard → r .farm ≡ farm → r .byte3 ≡ byte3
+    → r ≡ recordOf kind yard farm byte3 (r .amount)
+record-is r kind yard farm byte3 k y f b = rw (← k, ← y, ← f, ← b)
+
 -- a byte of a part of the bytes, and a record of it, is that at its place in the whole
 
 part-byte : (s : List ℕ) (k m i j : ℕ) → i < 8 * m → 8 * k + i ≡ j → getD (take (8 * m) (drop (8 * k) s)) i 0 ≡ getD s j 0
