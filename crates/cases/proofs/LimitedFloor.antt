@@ -18,8 +18,8 @@ use Rattle.questions.specs.Bounds.{yardKind}
 use Rattle.questions.specs.Sheet.{isYard, yards, hauls, farms, fee, haul, loadsByte, instanceOf, instanceBy}
 use Rattle.questions.specs.Questions.{question1, question2, wellFormed, wellFormedAt, question3, numbered, noYardAfter, question4, haulInPlace, farmInPlace, question10, haulLoaded, farmLoaded, question5, amountWithin, question6}
 use Rattle.questions.specs.Reading.{counts, form, formAndLoads, reading}
-use Rattle.floor.specs.Offering.{isOffer, offerInPlace, question15, question16, offering}
-use Rattle.floor.proofs.ReadOffLaws.{WithFees, under-limited}
+use Rattle.floor.specs.Offering.{isOffer, offerInPlace, question15, question16, offering, WithFees}
+use Rattle.floor.proofs.LimitedLaws.{under-limited}
 use Rattle.cases.proofs.CaseBytes.{yard, haulTo, withFees, loaded, sheetS, offer, offered}
 
 -- S with every fee set to 4

@@ -1,5 +1,5 @@
 -- The sheet of hauls, record by record: a priced record keeps all but the amount of a haul, and stands where the record stood.
-use Prim.Native.Nat.{ℕ, zero, suc, _+_, _*_, _<_}
+use Prim.Native.Nat.{ℕ, zero, suc, _*_, _<_}
 use native.Mathlib.Nat.{le-step, lt-suc-self, not-suc-le-zero, add-zero}
 use native.Mathlib.Omega.{arith}
 use mathlib.Core.Path.{_≡_, sym, ap, _∙_}
@@ -16,7 +16,6 @@ use Rattle.record.specs.Records.{records, recordOf, recordAt, bytesOf, amountEn
 use Rattle.record.proofs.SpliceLaws.{length-bytes}
 use Rattle.record.proofs.RecordLaws.{record-before, record-behind, read-again}
 use Rattle.questions.specs.Bounds.{haulKind}
-use Rattle.questions.specs.Questions.{wellFormed}
 use Rattle.distances.specs.Priced.{pricedRecord, pricedAt, pricedSheet}
 
 -- ---- single records
@@ -45,10 +44,6 @@ module _ (f : ℕ → ℕ) (r : Record) where
   pub keeps-byte3 : pricedRecord f r .byte3 ≡ r .byte3
   unfolding pricedRecord
   keeps-byte3 = cases (eqb (r .kind) haulKind) (λ e. rw e) (λ e. rw e)
-
-  pub keeps-well-formed : wellFormed (pricedRecord f r) ≡ wellFormed r
-  unfolding wellFormed
-  keeps-well-formed = rw (keeps-kind, keeps-farm, keeps-byte3)
 
 -- two prices that agree on the distance of a haul give the same record
 pub same-price : (f g : ℕ → ℕ) (r : Record) → (r .kind ≡ haulKind → f (r .amount) ≡ g (r .amount)) → pricedRecord f r ≡ pricedRecord g r

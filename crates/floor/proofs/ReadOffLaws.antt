@@ -1,36 +1,30 @@
--- What 15 and 16 say in readable words, and what a buyer reads off an accepted sum: it fits four bytes, no total that pricing writes is lower, a set that costs no more is the cheapest there is, and by the sum on a
--- copy of the sheet with equal fees no few yards haul for less.
-use Prim.Native.Nat.{ℕ, _+_, _-_, _*_, _/_, _≤_, _<_}
+-- What 15 and 16 say in readable words, and what a buyer reads off an accepted sum: it fits four bytes, no total that pricing writes is lower, and a set that
+-- costs no more is the cheapest there is.
+use Prim.Native.Nat.{ℕ, _*_, _≤_, _<_}
 use native.Mathlib.Nat.{le-trans}
 use native.Mathlib.Omega.{arith}
-use native.Mathlib.Decide.{decLt}
-use mathlib.Core.Path.{_≡_, refl, sym, ap, ap₂, _∙_}
+use mathlib.Core.Path.{_≡_, refl, sym, _∙_}
 use mathlib.Core.Bool.{Bool, true, false}
 use mathlib.Core.List.{List}
 use borrow.Author.Tests.{eqb-true}
 use lib.ListN.{length}
 use lib.Dec.{eqb}
-use Rattle.model.specs.Loops.{leading}
 use Rattle.model.specs.Least.{any}
-use Rattle.model.specs.Sets.{count, member}
-use Rattle.model.specs.Instance.{Instance, serviceCost, totalCost}
+use Rattle.model.specs.Sets.{member}
+use Rattle.model.specs.Instance.{Instance, totalCost}
 use Rattle.model.specs.Floor.{excessAt, feasible, floor}
 use Rattle.model.specs.Answers.{Answer, accepted, refused, ask, after}
 use Rattle.model.proofs.AnswerLaws.{same-result, not-both, asked, passed-first}
 use Rattle.model.proofs.Bools.{and-left, and-right}
-use Rattle.model.proofs.LoopLaws.{all-at, leading-holds, leading-cong}
-use Rattle.model.proofs.PlaceLaws.{row-within}
+use Rattle.model.proofs.LoopLaws.{all-at}
 use Rattle.model.proofs.LeastLaws.{any-of}
-use Rattle.model.proofs.CostLaws.{same-service}
-use Rattle.model.proofs.FloorLaws.{feasible-when, not-feasible, overbid, floor-under, floor-equal}
-use Rattle.record.specs.declared.Record.{Record}
-use Rattle.record.specs.Records.{records, recordOf, recordAt, amountAt, amountEnd}
+use Rattle.model.proofs.FloorLaws.{feasible-when, not-feasible, overbid, floor-under}
+use Rattle.record.specs.Records.{recordOf, recordAt, amountAt, amountEnd}
 use Rattle.record.proofs.RecordLaws.{record-is}
-use Rattle.questions.specs.Bounds.{yardKind}
-use Rattle.questions.specs.Sheet.{isYard, yards, hauls, farms, fee, place, haul, loadsByte, farmByte, loadsOf, instanceBy, instanceOf}
+use Rattle.questions.specs.Sheet.{yards, fee, farmByte, instanceBy, instanceOf}
 use Rattle.questions.specs.Reading.{Counts, counts, reading}
 use Rattle.questions.proofs.ReadingLaws.{refused-by}
-use Rattle.questions.proofs.AcceptedLaws.{WithinBounds, door, accepts, facilities-are, facilities-read}
+use Rattle.questions.proofs.AcceptedLaws.{WithinBounds, door, facilities-are, facilities-read}
 use Rattle.questions.proofs.CostBounds.{total-fits}
 use Rattle.plan_area.specs.Plan.{question9}
 use Rattle.price.specs.Pricing.{Plan, plan, question8, pricing}
@@ -121,66 +115,3 @@ module _ (s : List ℕ) (sum : ℕ) (under : UnderAll s (Cents sum)) where
   pub cheapest : (ours : ℕ → Bool) → totalCost (instanceOf s) ours ≤ sum
       → (rival : ℕ → Bool) → any (yards s) rival ≡ true → totalCost (instanceOf s) ours ≤ totalCost (instanceOf s) rival
   cheapest ours few rival some = le-trans few (under sum refl rival some)
-
--- ---- limited lists, by a copy of the sheet
-
--- t is s with every fee set to one amount
-pub record WithFees (amount : ℕ) (s t : List ℕ) : Type 0 where
-  pub as-long : length t ≡ length s
-  pub yard-records : (i : ℕ) → i < yards s → recordAt t i ≡ recordOf yardKind i 0 0 amount
-  pub other-records : (i : ℕ) → yards s ≤ i → i < records s → recordAt t i ≡ recordAt s i
-
-module _ (amount : ℕ) (s t : List ℕ) (w : WithFees amount s t) where
-  -- the copy has the sheet's yards and farms
-  same-yard : (i : ℕ) → i < records s → isYard t i ≡ isYard s i
-  unfolding isYard yards
-  same-yard i l =
-      elim (decLt i (yards s)) [
-        | yes below ↦
-            ap (λ (r : Record). eqb (r .kind) yardKind) (w .yard-records i below) ∙ sym (leading-holds (isYard s) (records s) i below)
-        | no above ↦ ap (λ (r : Record). eqb (r .kind) yardKind) (w .other-records i (omega arith) l)
-      ]
-
-  same-records : records t ≡ records s
-  same-records = ap (λ k. k / 8) (w .as-long)
-
-  same-yards : yards t ≡ yards s
-  unfolding yards
-  same-yards = ap (λ k. leading k (isYard t)) same-records ∙ leading-cong (records s) (isYard t) (isYard s) same-yard
-
-  same-farms : farms t ≡ farms s
-  unfolding farms hauls
-  same-farms = ap₂ (λ a b. (a - b) / b) same-records same-yards
-
-  module _ (m n : ℕ) (e : reading s ≡ accepted (counts m n)) where
-    -- and its hauls and loads
-    same-haul : (a p : ℕ) → a < yards s → p < farms s → recordAt t (place (yards s) p a) ≡ recordAt s (place (yards s) p a)
-    same-haul a p la lp =
-        let has = accepts s m n e .has in
-        let whole : records s ≡ yards s + farms s * yards s = rw (has .yards-are, has .farms-are) (omega (arith, has .long)) in
-        w .other-records (place (yards s) p a) (omega arith) (omega (arith, row-within (yards s) (farms s) p lp))
-
-    same-hauls : (rival : ℕ → Bool) → serviceCost (instanceOf t) rival ≡ serviceCost (instanceOf s) rival
-    unfolding instanceOf instanceBy haul loadsByte
-    same-hauls rival =
-        same-service (instanceOf t) (instanceOf s) rival same-yards same-farms
-        (λ i j facility client. at i j (omega (arith, same-yards)) (omega (arith, same-farms)))
-      where
-        at : (i j : ℕ) → i < yards s → j < farms s
-            → loadsOf (recordAt t (place (yards t) j 0) .byte3) * recordAt t (place (yards t) j i) .amount
-            ≡ loadsOf (recordAt s (place (yards s) j 0) .byte3) * recordAt s (place (yards s) j i) .amount
-        at i j facility client =
-            rw same-yards (ap₂ (λ (x y : Record). loadsOf (x .byte3) * y .amount) (same-haul 0 j (omega arith) client) (same-haul i j facility client))
-
-    equal : (i : ℕ) → i < instanceOf t .facilities → instanceOf t .opening i ≡ amount
-    unfolding instanceOf instanceBy fee
-    equal i l = ap (λ (r : Record). r .amount) (w .yard-records i (omega (arith, same-yards)))
-
-    -- "sum to at most k times L and the hauls of any non-empty set of at most k yards"
-    pub under-limited : (offers : List ℕ) (sum : ℕ) → offering t offers ≡ accepted sum
-        → (k : ℕ) (rival : ℕ → Bool) → any (yards s) rival ≡ true → count (yards s) rival ≤ k → sum ≤ k * amount + serviceCost (instanceOf s) rival
-    under-limited offers sum told k rival some few =
-        let p = passed t offers sum told in
-        let bound = floor-equal (instanceOf t) (amountAt offers) amount k equal (p .not-overbid) rival
-        (rw (facilities-are t, same-yards) some) (rw (facilities-are t, same-yards) few) in
-        omega (arith, bound, p .sum-is, same-hauls rival)

@@ -1,5 +1,5 @@
 -- A floor under all lists (document 02, paper 10): what the call answers to offers.
-use Prim.Native.Nat.{ℕ, _*_, _≤_}
+use Prim.Native.Nat.{ℕ, _*_, _≤_, _<_}
 use mathlib.Core.Path.{_≡_}
 use mathlib.Core.Bool.{Bool, true, _&&_}
 use mathlib.Core.List.{List}
@@ -11,7 +11,8 @@ use Rattle.model.specs.Instance.{totalCost}
 use Rattle.model.specs.Floor.{feasible, floor}
 use Rattle.model.specs.Answers.{Answer, accepted, refused, ask, after}
 use Rattle.record.specs.declared.Record.{Record}
-use Rattle.record.specs.Records.{recordAt, amountAt}
+use Rattle.record.specs.Records.{records, recordOf, recordAt, amountAt}
+use Rattle.questions.specs.Bounds.{yardKind}
 use Rattle.questions.specs.Sheet.{yards, instanceOf}
 use Rattle.questions.specs.Reading.{reading}
 use Rattle.floor.specs.declared.LowerBound.{LowerBound}
@@ -51,3 +52,9 @@ offering s offers =
 abbrev pub UnderAll : List ℕ → LowerBound → Type 0
 UnderAll s r =
     (sum : ℕ) → r ≡ Cents sum → (rival : ℕ → Bool) → any (yards s) rival ≡ true → sum ≤ totalCost (instanceOf s) rival
+
+-- For limited lists "a caller changes the fees of a copy of the sheet and asks the same call": t is s with every fee set to one amount.
+pub record WithFees (amount : ℕ) (s t : List ℕ) : Type 0 where
+  pub as-long : length t ≡ length s
+  pub yard-records : (i : ℕ) → i < yards s → recordAt t i ≡ recordOf yardKind i 0 0 amount
+  pub other-records : (i : ℕ) → yards s ≤ i → i < records s → recordAt t i ≡ recordAt s i
