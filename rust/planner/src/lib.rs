@@ -1,10 +1,32 @@
-//! The yard planner for Rust: the proved calls on bytes (`library`, over `raw`), the records and bounds of their formats (`format`),
-//! a sheet as a table (`table`) and a tariff as its bands (`bands`).
+//! The yard planner for Rust, over the calls that are proved in Rattle:
+//!
+//! ```
+//! use planner::Sheet;
+//!
+//! /// The yards to lease, by their numbers.
+//! fn leases(bytes: &[u8]) -> Result<Vec<usize>, Box<dyn std::error::Error>> {
+//!     let plan = Sheet::of_hauls(bytes).open_plan()?;
+//!     Ok(plan.yards.iter().map(|open| open.yard).collect())
+//! }
+//!
+//! assert_eq!(leases(&planner::table::Table::s().sheet()).unwrap(), [0, 1, 2]);
+//! assert!(leases(b"no sheet").unwrap_err().to_string().starts_with("refused 1: Is the length"));
+//! ```
+//!
+//! A `Sheet` has every call, and gives a `Plan` or a `Refusal`. The same calls on bytes and lent areas are in `library`, and as C has
+//! them in `raw`; `format` has the records and the bounds, `table` a sheet as a table, `bands` a tariff as its bands.
 pub mod bands;
 pub mod format;
 pub mod library;
+mod plan;
 pub mod raw;
+mod refusal;
+mod sheet;
 pub mod table;
+
+pub use plan::{OpenYard, Plan, PlannedFarm};
+pub use refusal::Refusal;
+pub use sheet::Sheet;
 
 /// What the amounts of haul records are (paper 3 of document 02): hauls as written, or distances by the house tariff or by a tariff
 /// of these bytes.
