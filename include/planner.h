@@ -3,7 +3,10 @@
  * sums offers to a floor under all lists, from hauls or from distances by a tariff (document 01 with papers 1, 2, 3, 5 and 10 of document
  * 02).
  *
- * Link target/staticlib/libexports.a, which `rt staticlib exports` proves and writes (x86-64; it needs memcpy and memset and nothing else).
+ * `./install PREFIX` proves the library, builds it and puts it under PREFIX as lib/libplanner.a, beside this header and
+ * planner.pc: compile and link with what `pkg-config --cflags --libs planner` says. It is for x86-64 and needs memcpy and
+ * memset and nothing else.
+ *
  * What each call promises is its contract in crates/exports/src/lib.rt: its answer and the area after it for every input; that a priced
  * plan has the set given and a limited plan k yards; that the change on shutting a yard is the full cost of the set without it less that
  * of the set; that the sum of accepted offers is at most the full cost of any non-empty set of yards; and for both plans that no move lowers
@@ -15,6 +18,15 @@
  * proof can: no pointer is NULL (also where its length is 0), as many bytes as the length says can be read, and in an area written, and an
  * area overlaps no sheet and no tariff. A sheet, a tariff and offers are only read. No call keeps a pointer, allocates memory, or has a
  * state of its own: several threads may call at once, each with its own area.
+ *
+ * Stack that a call takes, measured on full sheets and rounded up:
+ *
+ *   bytes    calls
+ *   104,000  planner_open_plan_by, planner_limited_plan_by
+ *    70,000  planner_open_plan, planner_limited_plan
+ *    59,000  planner_read_by, planner_price_by, planner_second, planner_shut, planner_floor
+ *    25,000  planner_read, planner_price
+ *     1,000  planner_farm_len, planner_farm_from, planner_farm_byte
  *
  * A record has eight bytes, of which byte 0 is the kind. In a sheet, in a plan and in offers byte 1 is a yard number, byte 2 a farm number,
  * byte 3 a farm's loads, bytes 4 to 7 an amount in cents, lowest byte first. Numbers count from 0; bytes not named are zero. Kinds are
@@ -79,11 +91,57 @@
 extern "C" {
 #endif
 
-/* An area of so many bytes holds the plan of every sheet. */
-#define PLANNER_MOST_AREA (8 * (32 + 128 + 2))
+/* The version of the library and of this header, and its three numbers. */
+#define PLANNER_VERSION "0.2.0"
+#define PLANNER_VERSION_MAJOR 0
+#define PLANNER_VERSION_MINOR 2
+#define PLANNER_VERSION_PATCH 0
 
-/* A tariff of so many bytes has the most bands. */
-#define PLANNER_MOST_TARIFF (8 * 16)
+/* The kinds of records: of a sheet, of a plan, of a tariff and of offers. PLANNER_HAULS, below, is no kind. */
+#define PLANNER_YARD 0x59
+#define PLANNER_HAUL 0x48
+#define PLANNER_OPEN 0x4F
+#define PLANNER_FARM 0x41
+#define PLANNER_TOTAL 0x54
+#define PLANNER_MOVES 0x4D
+#define PLANNER_BAND 0x42
+#define PLANNER_OFFER 0x56
+
+/* What planner_refusal gives: the numbers of the table above, named by what does not hold. */
+#define PLANNER_ACCEPTED 0
+#define PLANNER_REFUSED_LENGTH 1
+#define PLANNER_REFUSED_KIND 2
+#define PLANNER_REFUSED_YARDS 3
+#define PLANNER_REFUSED_HAULS 4
+#define PLANNER_REFUSED_AMOUNT 5
+#define PLANNER_REFUSED_FOUR_POINTS 6
+#define PLANNER_REFUSED_K 7
+#define PLANNER_REFUSED_SET 8
+#define PLANNER_REFUSED_AREA 9
+#define PLANNER_REFUSED_LOADS 10
+#define PLANNER_REFUSED_TARIFF 11
+#define PLANNER_REFUSED_RATE 12
+#define PLANNER_REFUSED_DISTANCE 13
+#define PLANNER_REFUSED_SHUT_YARD 14
+#define PLANNER_REFUSED_OFFERS 15
+#define PLANNER_REFUSED_EXCESS 16
+
+/* The bytes of a record, and the bounds of questions 3, 4, 5, 10 and 11. */
+#define PLANNER_RECORD 8
+#define PLANNER_MOST_YARDS 32
+#define PLANNER_MOST_FARMS 128
+#define PLANNER_HIGHEST_FEE 50000000
+#define PLANNER_HIGHEST_HAUL 1000000
+#define PLANNER_MOST_LOADS 20
+#define PLANNER_MOST_BANDS 16
+
+/* The bytes of the longest sheet, 33,024, of the longest offers and of a tariff of the most bands. */
+#define PLANNER_MOST_SHEET (PLANNER_RECORD * PLANNER_MOST_YARDS * (1 + PLANNER_MOST_FARMS))
+#define PLANNER_MOST_OFFERS (PLANNER_RECORD * PLANNER_MOST_FARMS)
+#define PLANNER_MOST_TARIFF (PLANNER_RECORD * PLANNER_MOST_BANDS)
+
+/* An area of so many bytes holds the plan of every sheet. */
+#define PLANNER_MOST_AREA (PLANNER_RECORD * (PLANNER_MOST_YARDS + PLANNER_MOST_FARMS + 2))
 
 /*
  * What `hauls` tells a call by a tariff about the amounts of haul records: 0, hauls as written; 1, distances by the house tariff; any other
@@ -160,6 +218,26 @@ uint64_t planner_shut(const uint8_t *sheet, size_t sheet_len, uint8_t hauls, con
  */
 uint64_t planner_floor(const uint8_t *sheet, size_t sheet_len, uint8_t hauls, const uint8_t *tariff, size_t tariff_len,
                        const uint8_t *offers, size_t offers_len);
+
+/* The amount of a record. */
+static inline uint32_t planner_amount(const uint8_t *record)
+{
+    return (uint32_t)record[4] | (uint32_t)record[5] << 8 | (uint32_t)record[6] << 16 | (uint32_t)record[7] << 24;
+}
+
+/* Writes the eight bytes of a record of a sheet, or of offers; what a kind does not have is 0. */
+static inline void planner_put_record(uint8_t *record, uint8_t kind, uint8_t yard, uint8_t farm, uint8_t loads,
+                                      uint32_t amount)
+{
+    record[0] = kind;
+    record[1] = yard;
+    record[2] = farm;
+    record[3] = loads;
+    record[4] = (uint8_t)(amount & 0xFF);
+    record[5] = (uint8_t)(amount >> 8 & 0xFF);
+    record[6] = (uint8_t)(amount >> 16 & 0xFF);
+    record[7] = (uint8_t)(amount >> 24);
+}
 
 /* The parts of a result. */
 static inline unsigned planner_refusal(uint64_t result) { return (unsigned)(result & 0xFF); }
