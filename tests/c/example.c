@@ -267,6 +267,8 @@ static void show_floors(void)
 
 int main(void)
 {
+    printf("most bytes: sheet %d, area %d, tariff %d, offers %d\n", PLANNER_MOST_SHEET, PLANNER_MOST_AREA,
+           PLANNER_MOST_TARIFF, PLANNER_MOST_OFFERS);
     show_made_sheet();
     show_counts("read", planner_read(sheet, sizeof sheet));
     show_refused_sheets();
