@@ -4,8 +4,8 @@
  * 02).
  *
  * `./install PREFIX` proves the library, builds it and puts it under PREFIX as lib/libplanner.a, beside this header and
- * planner.pc: compile and link with what `pkg-config --cflags --libs planner` says. It is for x86-64 and needs memcpy and
- * memset and nothing else.
+ * planner.pc: compile and link with what `pkg-config --cflags --libs planner` says. It is for Linux on x86-64 and needs
+ * memcpy and memset and nothing else.
  *
  * What each call promises is its contract in crates/exports/src/lib.rt: its answer and the area after it for every input; that a priced
  * plan has the set given and a limited plan k yards; that the change on shutting a yard is the full cost of the set without it less that
