@@ -225,7 +225,7 @@ static inline uint32_t planner_amount(const uint8_t *record)
     return (uint32_t)record[4] | (uint32_t)record[5] << 8 | (uint32_t)record[6] << 16 | (uint32_t)record[7] << 24;
 }
 
-/* Writes the eight bytes of a record of a sheet, or of offers; what a kind does not have is 0. */
+/* Writes a record of a sheet, or of offers; for what its kind does not have, 0 is handed over. */
 static inline void planner_put_record(uint8_t *record, uint8_t kind, uint8_t yard, uint8_t farm, uint8_t loads,
                                       uint32_t amount)
 {
