@@ -97,15 +97,15 @@ extern "C" {
 #define PLANNER_VERSION_MINOR 2
 #define PLANNER_VERSION_PATCH 0
 
-/* The kinds of records: of a sheet, of a plan, of a tariff and of offers. PLANNER_HAULS, below, is no kind. */
-#define PLANNER_YARD 0x59
-#define PLANNER_HAUL 0x48
-#define PLANNER_OPEN 0x4F
-#define PLANNER_FARM 0x41
-#define PLANNER_TOTAL 0x54
-#define PLANNER_MOVES 0x4D
-#define PLANNER_BAND 0x42
-#define PLANNER_OFFER 0x56
+/* The kinds of records: of a sheet, of a plan, of a tariff and of offers. */
+#define PLANNER_KIND_YARD 0x59
+#define PLANNER_KIND_HAUL 0x48
+#define PLANNER_KIND_OPEN 0x4F
+#define PLANNER_KIND_FARM 0x41
+#define PLANNER_KIND_TOTAL 0x54
+#define PLANNER_KIND_MOVES 0x4D
+#define PLANNER_KIND_BAND 0x42
+#define PLANNER_KIND_OFFER 0x56
 
 /* What planner_refusal gives: the numbers of the table above, named by what does not hold. */
 #define PLANNER_ACCEPTED 0

@@ -19,52 +19,52 @@ static const uint32_t hauls[FARMS][YARDS] = {
 
 /* S: fees 1, 4, 2; hauls 1, 3, 9 of farm 0, 5, 1, 5 of farm 1, 9, 5, 1 of farm 2 */
 static const uint8_t sheet[96] = {
-    PLANNER_YARD, 0, 0, 0, 1, 0, 0, 0, PLANNER_YARD, 1, 0, 0, 4, 0, 0, 0, PLANNER_YARD, 2, 0, 0, 2, 0, 0, 0,
-    PLANNER_HAUL, 0, 0, 0, 1, 0, 0, 0, PLANNER_HAUL, 1, 0, 0, 3, 0, 0, 0, PLANNER_HAUL, 2, 0, 0, 9, 0, 0, 0,
-    PLANNER_HAUL, 0, 1, 0, 5, 0, 0, 0, PLANNER_HAUL, 1, 1, 0, 1, 0, 0, 0, PLANNER_HAUL, 2, 1, 0, 5, 0, 0, 0,
-    PLANNER_HAUL, 0, 2, 0, 9, 0, 0, 0, PLANNER_HAUL, 1, 2, 0, 5, 0, 0, 0, PLANNER_HAUL, 2, 2, 0, 1, 0, 0, 0,
+    PLANNER_KIND_YARD, 0, 0, 0, 1, 0, 0, 0, PLANNER_KIND_YARD, 1, 0, 0, 4, 0, 0, 0, PLANNER_KIND_YARD, 2, 0, 0, 2, 0, 0, 0,
+    PLANNER_KIND_HAUL, 0, 0, 0, 1, 0, 0, 0, PLANNER_KIND_HAUL, 1, 0, 0, 3, 0, 0, 0, PLANNER_KIND_HAUL, 2, 0, 0, 9, 0, 0, 0,
+    PLANNER_KIND_HAUL, 0, 1, 0, 5, 0, 0, 0, PLANNER_KIND_HAUL, 1, 1, 0, 1, 0, 0, 0, PLANNER_KIND_HAUL, 2, 1, 0, 5, 0, 0, 0,
+    PLANNER_KIND_HAUL, 0, 2, 0, 9, 0, 0, 0, PLANNER_KIND_HAUL, 1, 2, 0, 5, 0, 0, 0, PLANNER_KIND_HAUL, 2, 2, 0, 1, 0, 0, 0,
 };
 
 /* one yard and one farm, at the highest fee and haul: 50,000,000 and 1,000,000 */
 static const uint8_t dearest[16] = {
-    PLANNER_YARD, 0, 0, 0, 0x80, 0xF0, 0xFA, 0x02, PLANNER_HAUL, 0, 0, 0, 0x40, 0x42, 0x0F, 0x00,
+    PLANNER_KIND_YARD, 0, 0, 0, 0x80, 0xF0, 0xFA, 0x02, PLANNER_KIND_HAUL, 0, 0, 0, 0x40, 0x42, 0x0F, 0x00,
 };
 
 /* fees 1 and 8, and a farm of ten loads with hauls 2 and 1: yard 1 costs 8 + 10, yard 0 costs 1 + 20 */
 static const uint8_t ten_loads[32] = {
-    PLANNER_YARD, 0, 0, 0, 1, 0, 0, 0, PLANNER_YARD, 1, 0, 0, 8, 0, 0, 0,
-    PLANNER_HAUL, 0, 0, 10, 2, 0, 0, 0, PLANNER_HAUL, 1, 0, 10, 1, 0, 0, 0,
+    PLANNER_KIND_YARD, 0, 0, 0, 1, 0, 0, 0, PLANNER_KIND_YARD, 1, 0, 0, 8, 0, 0, 0,
+    PLANNER_KIND_HAUL, 0, 0, 10, 2, 0, 0, 0, PLANNER_KIND_HAUL, 1, 0, 10, 1, 0, 0, 0,
 };
 
 /* one yard and a farm of 21 loads */
-static const uint8_t too_many_loads[16] = {PLANNER_YARD, 0, 0, 0, 1, 0, 0, 0, PLANNER_HAUL, 0, 0, 21, 2, 0, 0, 0};
+static const uint8_t too_many_loads[16] = {PLANNER_KIND_YARD, 0, 0, 0, 1, 0, 0, 0, PLANNER_KIND_HAUL, 0, 0, 21, 2, 0, 0, 0};
 
 /* fees 100 and 300, distances 120 and 250 of farm 0, 450 and 100 of farm 1; by the house tariff hauls 4,680 and 9,100,
  * 14,700 and 4,000 */
 static const uint8_t distances[48] = {
-    PLANNER_YARD, 0, 0, 0, 100, 0, 0, 0, PLANNER_YARD, 1, 0, 0, 44, 1, 0, 0,
-    PLANNER_HAUL, 0, 0, 0, 120, 0, 0, 0, PLANNER_HAUL, 1, 0, 0, 250, 0, 0, 0,
-    PLANNER_HAUL, 0, 1, 0, 194, 1, 0, 0, PLANNER_HAUL, 1, 1, 0, 100, 0, 0, 0,
+    PLANNER_KIND_YARD, 0, 0, 0, 100, 0, 0, 0, PLANNER_KIND_YARD, 1, 0, 0, 44, 1, 0, 0,
+    PLANNER_KIND_HAUL, 0, 0, 0, 120, 0, 0, 0, PLANNER_KIND_HAUL, 1, 0, 0, 250, 0, 0, 0,
+    PLANNER_KIND_HAUL, 0, 1, 0, 194, 1, 0, 0, PLANNER_KIND_HAUL, 1, 1, 0, 100, 0, 0, 0,
 };
 
 /* up to 200 at 10 cents, then up to 450 at 1 cent: hauls 1,200 and 2,050, 2,250 and 1,000 */
-static const uint8_t tariff[16] = {PLANNER_BAND, 0, 0, 0, 200, 0, 10, 0, PLANNER_BAND, 1, 200, 0, 194, 1, 1, 0};
+static const uint8_t tariff[16] = {PLANNER_KIND_BAND, 0, 0, 0, 200, 0, 10, 0, PLANNER_KIND_BAND, 1, 200, 0, 194, 1, 1, 0};
 
 /* the same up to 449 only, and with a rate of 11 cents in its second band */
-static const uint8_t shorter_tariff[16] = {PLANNER_BAND, 0, 0, 0, 200, 0, 10, 0, PLANNER_BAND, 1, 200, 0, 193, 1, 1, 0};
-static const uint8_t rising_tariff[16] = {PLANNER_BAND, 0, 0, 0, 200, 0, 10, 0, PLANNER_BAND, 1, 200, 0, 194, 1, 11, 0};
+static const uint8_t shorter_tariff[16] = {PLANNER_KIND_BAND, 0, 0, 0, 200, 0, 10, 0, PLANNER_KIND_BAND, 1, 200, 0, 193, 1, 1, 0};
+static const uint8_t rising_tariff[16] = {PLANNER_KIND_BAND, 0, 0, 0, 200, 0, 10, 0, PLANNER_KIND_BAND, 1, 200, 0, 194, 1, 11, 0};
 
 /* {0, 1, 2} and {0, 1} */
 static const uint32_t three_yards = 1u << 0 | 1u << 1 | 1u << 2, two_yards = 1u << 0 | 1u << 1;
 
 /* offers for S of 2, 5 and 3, which just meet all three fees */
 static const uint8_t offers[24] = {
-    PLANNER_OFFER, 0, 0, 0, 2, 0, 0, 0, PLANNER_OFFER, 0, 1, 0, 5, 0, 0, 0, PLANNER_OFFER, 0, 2, 0, 3, 0, 0, 0,
+    PLANNER_KIND_OFFER, 0, 0, 0, 2, 0, 0, 0, PLANNER_KIND_OFFER, 0, 1, 0, 5, 0, 0, 0, PLANNER_KIND_OFFER, 0, 2, 0, 3, 0, 0, 0,
 };
 
 /* offers for the distances of 4,780 and 4,300: by the house tariff hauls and fees 4,680 + 100 and 4,000 + 300 */
 static const uint8_t house_offers[16] = {
-    PLANNER_OFFER, 0, 0, 0, 0xAC, 0x12, 0, 0, PLANNER_OFFER, 0, 1, 0, 0xCC, 0x10, 0, 0,
+    PLANNER_KIND_OFFER, 0, 0, 0, 0xAC, 0x12, 0, 0, PLANNER_KIND_OFFER, 0, 1, 0, 0xCC, 0x10, 0, 0,
 };
 
 static uint8_t area[PLANNER_MOST_AREA];
@@ -73,7 +73,7 @@ static uint8_t area[PLANNER_MOST_AREA];
 static void put_yards(uint8_t *made)
 {
     for (uint8_t yard = 0; yard < YARDS; yard++)
-        planner_put_record(made + PLANNER_RECORD * yard, PLANNER_YARD, yard, 0, 0, fees[yard]);
+        planner_put_record(made + PLANNER_RECORD * yard, PLANNER_KIND_YARD, yard, 0, 0, fees[yard]);
 }
 
 /* A farm's haul records, behind those of the yards and of the farms before it. */
@@ -81,7 +81,7 @@ static void put_farm(uint8_t *made, uint8_t farm)
 {
     uint8_t *stretch = made + PLANNER_RECORD * YARDS * (1 + farm);
     for (uint8_t yard = 0; yard < YARDS; yard++)
-        planner_put_record(stretch + PLANNER_RECORD * yard, PLANNER_HAUL, yard, farm, loads[farm], hauls[farm][yard]);
+        planner_put_record(stretch + PLANNER_RECORD * yard, PLANNER_KIND_HAUL, yard, farm, loads[farm], hauls[farm][yard]);
 }
 
 /* A sheet made of tables, and its plan; the amounts of the first yard and of the last haul as they stand in it. */
@@ -116,7 +116,7 @@ static void show_changed_sheet(const char *call, size_t at, uint8_t byte)
 static void show_refused_sheets(void)
 {
     show_counts("read, one byte less", planner_read(sheet, sizeof sheet - 1));
-    show_changed_sheet("read, another kind", 24, PLANNER_FARM);
+    show_changed_sheet("read, another kind", 24, PLANNER_KIND_FARM);
     show_changed_sheet("read, yard 1 as yard 2", 9, 2);
     show_changed_sheet("read, a haul of farm 0 as of farm 1", 26, 1);
     show_counts("read, 21 loads", planner_read(too_many_loads, sizeof too_many_loads));
@@ -218,7 +218,7 @@ static void show_changed_offers(const char *call, size_t at, uint8_t byte)
 static void put_offers(uint8_t *made, uint32_t first, uint32_t other)
 {
     for (uint8_t farm = 0; farm < PLANNER_MOST_FARMS; farm++)
-        planner_put_record(made + PLANNER_RECORD * farm, PLANNER_OFFER, 0, farm, 0, farm == 0 ? first : other);
+        planner_put_record(made + PLANNER_RECORD * farm, PLANNER_KIND_OFFER, 0, farm, 0, farm == 0 ? first : other);
 }
 
 /* One yard at the highest fee, 128 farms of 20 loads at the highest haul. Farm 0 offers the fee too, 20 times
@@ -229,12 +229,12 @@ static void show_largest_floor(void)
     const size_t len = sizeof largest;
     const uint8_t most = PLANNER_MOST_LOADS, last = PLANNER_MOST_FARMS - 1;
     const uint32_t fee = PLANNER_HIGHEST_FEE, haul = PLANNER_HIGHEST_HAUL;
-    planner_put_record(largest, PLANNER_YARD, 0, 0, 0, fee);
+    planner_put_record(largest, PLANNER_KIND_YARD, 0, 0, 0, fee);
     for (uint8_t farm = 0; farm < PLANNER_MOST_FARMS; farm++)
-        planner_put_record(largest + PLANNER_RECORD * (1 + farm), PLANNER_HAUL, 0, farm, most, haul);
+        planner_put_record(largest + PLANNER_RECORD * (1 + farm), PLANNER_KIND_HAUL, 0, farm, most, haul);
     put_offers(made, haul + fee / most, haul);
     show_sum("floor, largest sum", planner_floor(largest, len, PLANNER_HAULS, tariff, 0, made, sizeof made));
-    planner_put_record(made + PLANNER_RECORD * last, PLANNER_OFFER, 0, last, 0, haul + 1);
+    planner_put_record(made + PLANNER_RECORD * last, PLANNER_KIND_OFFER, 0, last, 0, haul + 1);
     show_sum("floor, one cent above it", planner_floor(largest, len, PLANNER_HAULS, tariff, 0, made, sizeof made));
     put_offers(made, UINT32_MAX, UINT32_MAX);
     show_sum("floor, highest amounts", planner_floor(largest, len, PLANNER_HAULS, tariff, 0, made, sizeof made));
@@ -250,7 +250,7 @@ static void show_floors(void)
     show_changed_offers("floor of 3, 5, 3", 4, 3);
     show_changed_offers("floor of 2, 6, 3", 12, 6);
     show_changed_offers("floor of 2, 5, 4", 20, 4);
-    show_changed_offers("floor, another kind", 8, PLANNER_HAUL);
+    show_changed_offers("floor, another kind", 8, PLANNER_KIND_HAUL);
     show_changed_offers("floor, byte 1 not zero", 9, 1);
     show_changed_offers("floor, another farm", 10, 2);
     show_changed_offers("floor, byte 3 not zero", 11, 1);

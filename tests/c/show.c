@@ -46,10 +46,10 @@ void show_counts(const char *call, uint64_t result)
 static const char *kind_of(const uint8_t *record)
 {
     switch (record[0]) {
-    case PLANNER_OPEN: return "open";
-    case PLANNER_FARM: return "farm";
-    case PLANNER_TOTAL: return "total";
-    case PLANNER_MOVES: return "moves";
+    case PLANNER_KIND_OPEN: return "open";
+    case PLANNER_KIND_FARM: return "farm";
+    case PLANNER_KIND_TOTAL: return "total";
+    case PLANNER_KIND_MOVES: return "moves";
     default: return "no kind of a plan";
     }
 }
