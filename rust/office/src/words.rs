@@ -1,39 +1,51 @@
-//! What the tool `sheet` says about a sheet: its table, a plan, or why the library refuses the call. `shutting` is about what
-//! shutting a yard would change, `tariffs` about a tariff by itself.
-mod questions;
+//! What the tool says in plain text: a sheet as a table (`sheets`), a list (`list`) with how far from best it is (`best`), lists side
+//! by side (`side_by_side`), two lists compared (`compared`), what shutting a yard would change (`shutting`), cards and farms by yard
+//! (`cards`), a tariff by itself (`tariffs`), or why the library refuses the call (`refusal`).
+pub mod best;
+pub mod cards;
+pub mod compared;
+pub mod list;
 pub mod refusal;
+pub mod sheets;
 pub mod shutting;
-mod tables;
+pub mod side_by_side;
+pub mod tables;
 pub mod tariffs;
 
-use planner::format::MOST_AREA;
-use planner::{bands, library, Answer, Counts, Tariff};
+use crate::csv::Cells;
+use crate::list::{Choice, List};
+use planner::format::{MOST_AREA, RECORD};
+use planner::{library, Counts, Plan, Refusal, Sheet, Tariff};
 use refusal::Given;
+use std::ops::RangeInclusive;
 
-/// Exit statuses. A defect is a refusal for which the tool does not find the fault.
+/// Exit statuses. A defect is a refusal for which the tool does not find the fault, or a list that is not what it says.
 pub const ACCEPTED: u8 = 0;
 pub const REFUSED: u8 = 1;
 pub const DEFECT: u8 = 3;
 
-/// The names of yards and farms by number, and the file of a given tariff; empty where they are not known.
+/// The names of yards and farms by number, the files of the sheet and of a given tariff, and the cells that the amounts were typed
+/// in; empty where they are not known.
 #[derive(Clone, Debug, Default, PartialEq, Eq)]
 pub struct Names {
     pub yards: Vec<String>,
     pub farms: Vec<String>,
+    pub sheet: String,
     pub tariff: String,
+    pub cells: Cells,
 }
 
 impl Names {
-    fn yard(&self, yard: usize) -> String {
+    pub fn yard(&self, yard: usize) -> String {
         named("yard", yard, &self.yards)
     }
 
-    fn farm(&self, farm: usize) -> String {
+    pub fn farm(&self, farm: usize) -> String {
         named("farm", farm, &self.farms)
     }
 
     /// What a list is by; nothing where haul amounts are hauls.
-    fn by(&self, tariff: Tariff) -> Option<String> {
+    pub fn by(&self, tariff: Tariff) -> Option<String> {
         match tariff {
             Tariff::None => None,
             Tariff::House => Some("by the house tariff".into()),
@@ -41,21 +53,36 @@ impl Names {
             Tariff::Given(_) => Some(format!("by the tariff {}", self.tariff)),
         }
     }
+
+    /// A title and what it is by.
+    pub fn title(&self, title: &str, tariff: Tariff) -> String {
+        self.by(tariff).map_or(title.into(), |by| format!("{title}, {by}"))
+    }
+
+    /// The same, and below it the sheet with its counts, of which the folder has the first.
+    fn titled(&self, title: &str, sheet: Sheet, counts: Counts) -> String {
+        format!("{}\n{}\n", self.title(title, sheet.tariff), self.counted(sheet, counts))
+    }
+
+    /// The sheet's file, where it is known, and its counts.
+    pub fn counted(&self, sheet: Sheet, counts: Counts) -> String {
+        let file = if self.sheet.is_empty() { String::new() } else { format!(" {}", self.sheet) };
+        format!("sheet{file}: {}", counted(sheet.bytes, counts))
+    }
 }
 
 fn named(word: &str, number: usize, names: &[String]) -> String {
     names.get(number).map_or(format!("{word} {number}"), |name| format!("{word} {number} ({name})"))
 }
 
-/// What the tool is asked about a sheet.
-#[derive(Clone, Copy, Debug)]
-pub enum Request {
-    Read,
-    Show,
-    OpenPlan,
-    LimitedPlan(usize),
-    /// Bit i of the set marks yard i.
-    Price(u32),
+fn counted(sheet: &[u8], counts: Counts) -> String {
+    format!("records {}, yards {}, farms {}", sheet.len() / RECORD, counts.yards, counts.farms)
+}
+
+/// The counts of an accepted sheet, of which this is a plan.
+pub fn counts(sheet: Sheet, plan: &Plan) -> Counts {
+    let farms = plan.farms.len();
+    Counts { yards: sheet.bytes.len() / RECORD / (farms + 1), farms }
 }
 
 /// What the tool prints, and its exit status.
@@ -65,60 +92,76 @@ pub struct Said {
     pub status: u8,
 }
 
-/// Calls the library and puts its answer in words.
-pub fn said(request: Request, sheet: &[u8], tariff: Tariff, names: &Names) -> Said {
-    outcome(answer(request, sheet, tariff, names), sheet, &given(request, tariff), names)
-}
-
 /// An accepted call's text, or why the call is refused.
-pub fn outcome(answer: Answer<String>, sheet: &[u8], given: &Given, names: &Names) -> Said {
-    match answer.map_err(|number| refusal::explained(number, sheet, given, names)) {
+pub fn outcome(answer: Result<String, Refusal>, sheet: Sheet, given: &Given, names: &Names) -> Said {
+    match answer.map_err(|refusal| refusal::explained(refusal, sheet, given, names)) {
         Ok(text) => Said { text, status: ACCEPTED },
         Err(Ok(text)) => Said { text, status: REFUSED },
         Err(Err(text)) => Said { text, status: DEFECT },
     }
 }
 
-fn answer(request: Request, sheet: &[u8], tariff: Tariff, names: &Names) -> Answer<String> {
-    let mut area = [0; MOST_AREA];
-    let by = names.by(tariff);
-    let (title, total, written) = match request {
-        Request::Read => {
-            let counts = library::read_by(sheet, tariff)?;
-            let distances = by.map_or(String::new(), |by| format!(", distances {by}"));
-            return Ok(format!("accepted: {}{distances}\n", counted(counts)));
-        }
-        Request::Show => {
-            let counts = library::read_by(sheet, tariff)?;
-            return Ok(tables::sheet(sheet, counts, by.zip(bands::of(tariff)), names));
-        }
-        Request::OpenPlan => ("Open plan".into(), "fees and hauls", library::open_plan_by(sheet, tariff, &mut area)?),
-        Request::LimitedPlan(k) => {
-            let title = format!("Limited plan, k = {k}");
-            (title, "hauls alone", library::limited_plan_by(sheet, tariff, k, &mut area)?)
-        }
-        Request::Price(set) => {
-            ("Price of a set".into(), "fees and hauls", library::price_by(sheet, tariff, set, &mut area)?)
-        }
-    };
-    let (title, distances) = match by {
-        Some(by) => (format!("{title}, {by}"), Some(sheet)),
-        None => (title, None),
-    };
-    Ok(tables::plan(&title, total, &area[..written.bytes], distances, names))
+/// What reading answers to a sheet that was just made.
+pub fn read(sheet: Sheet, names: &Names) -> Said {
+    let distances = names.by(sheet.tariff).map_or(String::new(), |by| format!(", distances {by}"));
+    let accepted = |counts| format!("accepted: {}{distances}\n", counted(sheet.bytes, counts));
+    outcome(sheet.read().map(accepted), sheet, &Given::default(), names)
 }
 
-fn counted(counts: Counts) -> String {
-    format!("yards {}, farms {}", counts.yards, counts.farms)
+/// The sheet as a table; one of good form that is refused too, with why below it.
+pub fn shown(sheet: Sheet, names: &Names) -> Said {
+    let counts = sheet.read();
+    let said = outcome(counts.map(|counts| sheets::sheet(sheet, counts, names)), sheet, &Given::default(), names);
+    match (counts, of_good_form(sheet.bytes)) {
+        (Err(_), Some(counts)) => {
+            Said { text: format!("{}\n{}", sheets::sheet(sheet, counts, names), said.text), ..said }
+        }
+        _ => said,
+    }
 }
 
-fn given(request: Request, tariff: Tariff) -> Given {
-    let read = Given { tariff, ..Given::default() };
-    let lent = Given { area: Some(MOST_AREA), ..read };
-    match request {
-        Request::Read | Request::Show => read,
-        Request::OpenPlan => lent,
-        Request::LimitedPlan(k) => Given { k: Some(k), ..lent },
-        Request::Price(set) => Given { set: Some(set), ..lent },
+/// The counts of a sheet that questions 1 to 4 accept: then, and only then, farm 0 has a stretch.
+pub fn of_good_form(sheet: &[u8]) -> Option<Counts> {
+    let yards = library::farm_len(sheet, 0) / RECORD;
+    (yards > 0).then(|| Counts { yards, farms: sheet.len() / RECORD / yards - 1 })
+}
+
+/// A list put in some form, or why its call is refused.
+pub fn listed(choice: Choice, sheet: Sheet, names: &Names, form: impl FnOnce(&List) -> String) -> Said {
+    let list = List::of(sheet, choice);
+    let disagreement = list.as_ref().ok().and_then(List::disagreement);
+    agreed(disagreement, outcome(list.map(|list| form(&list)), sheet, &given(choice), names))
+}
+
+/// The open list and the limited ones for a range of k that is not empty, or for every k of the sheet.
+pub fn side_by_side(ks: Option<RangeInclusive<usize>>, sheet: Sheet, names: &Names) -> Said {
+    let all = |counts: Counts| 1..=counts.yards;
+    let ks = ks.unwrap_or_else(|| sheet.read().map_or(1..=1, all));
+    let lists = List::of(sheet, Choice::Open).and_then(|open| {
+        let limited = List::limited(sheet, ks.clone())?;
+        Ok(std::iter::once(open).chain(limited).collect::<Vec<_>>())
+    });
+    let disagreement = lists.iter().flatten().find_map(List::disagreement);
+    // Where the range leaves the sheet, its lower end does, or its upper end.
+    let k = if *ks.start() == 0 { 0 } else { *ks.end() };
+    let text = lists.map(|lists| side_by_side::words(&lists, sheet, names));
+    agreed(disagreement, outcome(text, sheet, &given(Choice::Limited(k)), names))
+}
+
+/// What is said, but where a list is not what it says, that it is not.
+pub fn agreed(disagreement: Option<String>, said: Said) -> Said {
+    match disagreement {
+        Some(words) => Said { text: format!("{words}: the library or the tool has a defect.\n"), status: DEFECT },
+        None => said,
+    }
+}
+
+/// What the call for a list is given.
+pub fn given(choice: Choice) -> Given {
+    let lent = Given { area: Some(MOST_AREA), ..Given::default() };
+    match choice {
+        Choice::Open => lent,
+        Choice::Limited(k) => Given { k: Some(k), ..lent },
+        Choice::Set(set) => Given { set: Some(set), ..lent },
     }
 }

@@ -1,10 +1,11 @@
 //! The example sheets: each is what its table makes, and the tool and the library say of it what stands beside it. So is the
 //! tariff of the example of distances.
-use office::csv;
-use office::words::{said, shutting, tariffs, Names, Request, ACCEPTED};
+use office::csv::{self, File};
+use office::list::Choice;
+use office::words::{list, listed, read, shown, shutting, tariffs, Names, Said, ACCEPTED};
 use planner::format::{amount, FARM, MOST_AREA, MOVES, OPEN, RECORD, TOTAL};
 use planner::table::Table;
-use planner::{bands, library, Tariff};
+use planner::{bands, library, Sheet, Tariff};
 use std::fs;
 use std::path::{Path, PathBuf};
 
@@ -31,9 +32,24 @@ fn text(name: &str) -> String {
     fs::read_to_string(file(name)).unwrap()
 }
 
+/// An example's table, its names with the sheet as the command line names it, and its sheet.
 fn typed(example: &str) -> (Table, Names, Vec<u8>) {
-    let typed = csv::read(text(&format!("{example}.csv")).as_bytes()).unwrap();
-    (typed.table, typed.names, fs::read(file(&format!("{example}.sheet"))).unwrap())
+    let name = format!("{example}.csv");
+    let typed = csv::read(&[File { name: &name, bytes: text(&name).as_bytes() }]).unwrap();
+    let names = Names { sheet: format!("sheets/{example}.sheet"), ..typed.names };
+    (typed.table, names, fs::read(file(&format!("{example}.sheet"))).unwrap())
+}
+
+/// A list as the tool prints it.
+fn in_words(choice: Choice, sheet: Sheet, names: &Names) -> Said {
+    listed(choice, sheet, names, |list| list::words(list, sheet, names))
+}
+
+/// Each is accepted and has its part.
+fn assert_parts(cases: &[(&Said, &str)]) {
+    for (said, part) in cases {
+        assert!(said.status == ACCEPTED && said.text.contains(part), "{part}, in: {}", said.text);
+    }
 }
 
 /// What the program `plan` prints for the records of a plan area.
@@ -73,7 +89,7 @@ fn each_plan_is_the_librarys() {
 fn each_plan_in_words_is_what_the_tool_prints() {
     for example in EXAMPLES {
         let (_, names, sheet) = typed(example);
-        let said = said(Request::OpenPlan, &sheet, Tariff::None, &names);
+        let said = in_words(Choice::Open, Sheet::of_hauls(&sheet), &names);
         assert_eq!((said.status, said.text), (ACCEPTED, text(&format!("{example}.txt"))), "{example}");
     }
 }
@@ -154,8 +170,11 @@ fn haulier() -> Vec<u8> {
 fn the_sheet_of_distances_and_its_tariff_are_what_their_tables_make() {
     let (table, _, sheet) = typed(DISTANCES);
     assert!(table.sheet() == sheet);
-    assert_eq!(csv::read(text("distances/boerde.csv").as_bytes()).unwrap().amounts, csv::Amounts::Distances);
-    assert_eq!(bands::bytes(&csv::read_tariff(text("distances/haulier.csv").as_bytes()).unwrap()), haulier());
+    let [distances, tariff] = ["distances/boerde.csv", "distances/haulier.csv"].map(text);
+    let distances = csv::read(&[File { name: "boerde.csv", bytes: distances.as_bytes() }]).unwrap();
+    assert_eq!(distances.amounts, csv::Amounts::Distances);
+    let bands = csv::read_tariff(File { name: "haulier.csv", bytes: tariff.as_bytes() }).unwrap();
+    assert_eq!(bands::bytes(&bands), haulier());
 }
 
 #[test]
@@ -163,9 +182,10 @@ fn the_plans_by_tariffs_and_the_tariff_in_words_are_what_the_tool_prints() {
     let (_, names, sheet) = typed(DISTANCES);
     let names = Names { tariff: HAULIER.into(), ..names };
     let haulier = haulier();
+    let open_plan = |tariff| in_words(Choice::Open, Sheet::of_distances(&sheet, tariff), &names);
     let cases = [
-        ("distances/boerde-by-house.txt", said(Request::OpenPlan, &sheet, Tariff::House, &names)),
-        ("distances/boerde-by-haulier.txt", said(Request::OpenPlan, &sheet, Tariff::Given(&haulier), &names)),
+        ("distances/boerde-by-house.txt", open_plan(Tariff::House)),
+        ("distances/boerde-by-haulier.txt", open_plan(Tariff::Given(&haulier))),
         ("distances/haulier.txt", tariffs::shown(Tariff::Given(&haulier), &names)),
     ];
     for (name, said) in cases {
@@ -175,26 +195,23 @@ fn the_plans_by_tariffs_and_the_tariff_in_words_are_what_the_tool_prints() {
 
 #[test]
 fn the_tool_shows_distances_and_prices_every_list_by_the_tariff() {
-    let (_, names, sheet) = typed(DISTANCES);
-    let cases = [
-        (Request::Read, "accepted: yards 10, farms 28, distances by the house tariff\n"),
-        (Request::Show, "Sheet of distances, by the house tariff: yards 10, farms 28\n"),
-        (Request::Show, "\n   5                      2000                    4000                              15 "),
-        (Request::Show, "\nfarm                    loads  distance to yard, hundreds of metres:    0    1    2 "),
-        (Request::Show, "\n   0  Barleben             12                                         103  227  236 "),
-        (Request::LimitedPlan(1), "Limited plan, k = 1, by the house tariff\n"),
-        (
-            Request::LimitedPlan(1),
-            "   0  Barleben             12             9  Wanzleben                           258 ",
-        ),
-        (Request::LimitedPlan(1), "hauls               2910684\ntotal, hauls alone  2910684\n"),
-        (Request::Price(0b1), "   0  Barleben             12             0  Magdeburg                           103 "),
-        (Request::Price(0b1), "                    4102                     49224\n"),
-    ];
-    for (request, part) in cases {
-        let said = said(request, &sheet, Tariff::House, &names);
-        assert!(said.status == ACCEPTED && said.text.contains(part), "{part}, in: {}", said.text);
-    }
+    let (_, names, bytes) = typed(DISTANCES);
+    let sheet = Sheet::of_distances(&bytes, Tariff::House);
+    let (made, shown) = (read(sheet, &names), shown(sheet, &names));
+    let [limited, priced] = [Choice::Limited(1), Choice::Set(0b1)].map(|choice| in_words(choice, sheet, &names));
+    let counted = "sheet sheets/distances/boerde.sheet: records 290, yards 10, farms 28\n";
+    assert_parts(&[
+        (&made, "accepted: records 290, yards 10, farms 28, distances by the house tariff\n"),
+        (&shown, &format!("Fees and distances, by the house tariff\n{counted}")),
+        (&shown, "\n   5                      2000                    4000                              15 "),
+        (&shown, "\nfarm                    loads  distance to yard, hundreds of metres:    0    1    2 "),
+        (&shown, "\n   0  Barleben             12                                         103  227  236 "),
+        (&limited, &format!("Limited plan, k = 1, by the house tariff\n{counted}")),
+        (&limited, "   0  Barleben             12             9  Wanzleben                           258 "),
+        (&limited, "hauls               2910684\nfees and hauls      3110684\ntotal, hauls alone  2910684\n"),
+        (&priced, "   0  Barleben             12             0  Magdeburg                           103 "),
+        (&priced, "                    4102                     49224\n"),
+    ]);
 }
 
 /// The records of open yards in the open plan of the sheet of distances.
@@ -232,29 +249,25 @@ fn with_one_load_for_each_farm_the_example_with_loads_leases_one_yard() {
 
 #[test]
 fn the_tool_shows_loads_and_counts_them_in_every_sum() {
-    let (_, names, sheet) = typed("loads");
-    let cases = [
-        (Request::Show, "farm               loads  one load to yard, cents:      0     1     2      3\n"),
-        (Request::Show, "   2  Elm Farm         1                             6000  1800  1800   6000\n"),
-        (Request::LimitedPlan(2), "hauls               134700\ntotal, hauls alone  134700\n"),
-        (Request::Price(0b10), "18             1  Old Harbour                     4500                     81000\n"),
-        (
-            Request::Price(0b10),
-            "fees                    90000\nhauls                  261900\ntotal, fees and hauls  351900\n",
-        ),
-    ];
-    for (request, part) in cases {
-        let said = said(request, &sheet, Tariff::None, &names);
-        assert!(said.status == ACCEPTED && said.text.contains(part), "{part}, in: {}", said.text);
-    }
+    let (_, names, bytes) = typed("loads");
+    let sheet = Sheet::of_hauls(&bytes);
+    let shown = shown(sheet, &names);
+    let [limited, priced] = [Choice::Limited(2), Choice::Set(0b10)].map(|choice| in_words(choice, sheet, &names));
+    assert_parts(&[
+        (&shown, "farm               loads  one load to yard, cents:      0     1     2      3\n"),
+        (&shown, "   2  Elm Farm         1                             6000  1800  1800   6000\n"),
+        (&limited, "hauls               134700\nfees and hauls      234700\ntotal, hauls alone  134700\n"),
+        (&priced, "18             1  Old Harbour                     4500                     81000\n"),
+        (&priced, "fees                    90000\nhauls                  261900\ntotal, fees and hauls  351900\n"),
+    ]);
 }
 
 #[test]
 fn what_shutting_a_yard_would_change_is_what_the_tool_prints() {
     let (_, names, sheet) = typed("loads");
-    let open_plan = shutting::said(None, &sheet, Tariff::None, &names);
+    let open_plan = shutting::said(None, Sheet::of_hauls(&sheet), &names);
     assert_eq!((open_plan.status, open_plan.text), (ACCEPTED, text("loads-shut.txt")));
-    let all = shutting::said(Some(0b1111), &sheet, Tariff::None, &names);
+    let all = shutting::said(Some(0b1111), Sheet::of_hauls(&sheet), &names);
     let lines = "\
    0  Mill Gate         60000      2     23  saves 47400         1
    1  Old Harbour       90000      0      0  saves 90000
@@ -263,7 +276,7 @@ fn what_shutting_a_yard_would_change_is_what_the_tool_prints() {
 ";
     assert!(all.status == ACCEPTED && all.text.contains(lines), "{}", all.text);
     let (_, names, sheet) = typed(DISTANCES);
-    let by_haulier = shutting::said(None, &sheet, Tariff::Given(&haulier()), &names);
+    let by_haulier = shutting::said(None, Sheet::of_distances(&sheet, Tariff::Given(&haulier())), &names);
     let line = "   1  Haldensleben      400000      6     61  costs 13262 more    4, 9\n";
     assert!(by_haulier.status == ACCEPTED && by_haulier.text.contains(line), "{}", by_haulier.text);
 }
@@ -271,6 +284,7 @@ fn what_shutting_a_yard_would_change_is_what_the_tool_prints() {
 #[test]
 fn loads_of_one_are_left_out() {
     let (table, names, _) = typed("s");
-    let said = said(Request::OpenPlan, &Table { loads: vec![1, 0, 1], ..table }.sheet(), Tariff::None, &names);
+    let sheet = Table { loads: vec![1, 0, 1], ..table }.sheet();
+    let said = in_words(Choice::Open, Sheet::of_hauls(&sheet), &names);
     assert_eq!((said.status, said.text), (ACCEPTED, text("s.txt")));
 }

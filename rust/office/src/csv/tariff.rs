@@ -7,55 +7,34 @@
 //! ```
 //!
 //! One line for each band. The first band starts at 0, each other one at its predecessor's end.
-use super::lines::{lines, Line};
-use super::{fault, is_whole, Fault};
+use super::columns::{Columns, Entry};
+use super::faults::{Fault, Faults};
+use super::units::is_whole;
+use super::File;
 use planner::bands::{following, Band};
 use planner::format::MOST_BANDS;
 
-const END: &str = "end in hundreds of metres";
-const RATE: &str = "rate in cents per hundred metres";
-const COLUMNS: [&str; 2] = [END, RATE];
+const COLUMNS: Columns = Columns {
+    heads: &["end in hundreds of metres", "rate in cents per hundred metres"],
+    asked: "the table of a tariff has two columns, end and rate",
+    nothing: "there is no band; asked: one line for each band, at least one (question 11)",
+};
 
-/// The bands of a CSV file, or its first fault.
-pub fn read_tariff(file: &[u8]) -> Result<Vec<Band>, Fault> {
-    let mut lines = lines(file);
-    head(lines.next().transpose()?)?;
-    let mut ends_and_rates = Vec::new();
-    for line in lines {
-        let line = line?;
-        if ends_and_rates.len() == MOST_BANDS {
-            return fault(line.number, 1, format!("a tariff has at most {MOST_BANDS} bands (question 11)"));
+/// The bands of a table, or all its faults.
+pub fn read_tariff(table: File) -> Result<Vec<Band>, Vec<Fault>> {
+    let mut faults = Faults::of(table.name);
+    let mut bands = 0;
+    let band = |entry: Entry, faults: &mut Faults| {
+        bands += 1;
+        if bands == MOST_BANDS + 1 {
+            entry.tell(0, faults, format!("a tariff has at most {MOST_BANDS} bands (question 11)"));
         }
-        ends_and_rates.push((number(&line, 1)?, number(&line, 2)?));
-        nothing_past(&line)?;
-    }
-    if ends_and_rates.is_empty() {
-        return fault(2, 1, "there is no band; asked: one line for each band, at least one (question 11)");
-    }
-    Ok(following(&ends_and_rates))
-}
-
-fn head(line: Option<Line>) -> Result<(), Fault> {
-    let line = line.unwrap_or(Line { number: 1, cells: Vec::new() });
-    for (index, asked) in COLUMNS.iter().enumerate() {
-        if !line.cell(index + 1).eq_ignore_ascii_case(asked) {
-            return fault(line.number, index + 1, format!("asked here: the words {asked}"));
-        }
-    }
-    nothing_past(&line)
-}
-
-fn nothing_past(line: &Line) -> Result<(), Fault> {
-    match line.cells.len() > COLUMNS.len() {
-        true => fault(line.number, COLUMNS.len() + 1, "the table of a tariff has two columns, end and rate"),
-        false => Ok(()),
-    }
-}
-
-/// The number in a column of a band's line.
-fn number(line: &Line, column: usize) -> Result<u16, Fault> {
-    two_bytes(line.cell(column))
-        .or_else(|words| fault(line.number, column, format!("under {}: {words}", COLUMNS[column - 1])))
+        let end = entry.read(0, faults, two_bytes);
+        let rate = entry.read(1, faults, two_bytes);
+        end.zip(rate)
+    };
+    let ends_and_rates = COLUMNS.entries(table, &mut faults, band);
+    faults.result(ends_and_rates.map(|ends_and_rates| following(&ends_and_rates)))
 }
 
 fn two_bytes(cell: &str) -> Result<u16, String> {

@@ -5,18 +5,17 @@
 mod amounts;
 mod tariff;
 
-use super::questions::QUESTIONS;
 use super::Names;
+use crate::csv::Cell;
 use amounts::WellFormed;
 use planner::format::{
     amount, least_area, HAUL, LONGEST_SHEET, MOST_FARMS, MOST_LOADS, MOST_YARDS, RECORD, SHORTEST_SHEET, YARD,
 };
-use planner::{bands, Tariff};
+use planner::{bands, Refusal, Sheet};
 
 /// What a call was given beside the sheet.
 #[derive(Clone, Copy, Debug, Default)]
-pub struct Given<'a> {
-    pub tariff: Tariff<'a>,
+pub struct Given {
     pub k: Option<usize>,
     pub set: Option<u32>,
     /// The yard of the set that is to shut.
@@ -35,13 +34,13 @@ pub struct Fault {
 }
 
 /// The refusal in words; an error where the search here does not come to the library's number.
-pub fn explained(number: u8, sheet: &[u8], given: &Given, names: &Names) -> Result<String, String> {
-    match first_fault(sheet, given, names) {
-        Some(fault) if fault.question == number => {
-            let question = QUESTIONS[number as usize - 1];
+pub fn explained(refusal: Refusal, sheet: Sheet, given: &Given, names: &Names) -> Result<String, String> {
+    let number = refusal.0;
+    match (first_fault(sheet, given, names), refusal.question()) {
+        (Some(fault), Some(question)) if fault.question == number => {
             Ok(format!("refused {number}\nQuestion {number}: {question} No.\n{}\n", fault.words))
         }
-        other => {
+        (other, _) => {
             let found =
                 other.map_or("no fault at all".into(), |fault| format!("a fault of question {}", fault.question));
             Err(format!("refused {number}\nThis tool finds {found}: the library or the tool has a defect.\n"))
@@ -50,25 +49,25 @@ pub fn explained(number: u8, sheet: &[u8], given: &Given, names: &Names) -> Resu
 }
 
 /// The first question that is answered no, by a search of its own.
-pub fn first_fault(sheet: &[u8], given: &Given, names: &Names) -> Option<Fault> {
-    let records: Vec<&[u8]> = sheet.chunks_exact(RECORD).collect();
-    tariff::fault(given.tariff)
-        .or_else(|| length(sheet))
+pub fn first_fault(sheet: Sheet, given: &Given, names: &Names) -> Option<Fault> {
+    let records: Vec<&[u8]> = sheet.bytes.chunks_exact(RECORD).collect();
+    tariff::fault(sheet.tariff)
+        .or_else(|| length(sheet.bytes))
         .or_else(|| kinds(&records))
         .or_else(|| yards(&records))
-        .or_else(|| after_yards(&records, given, names))
+        .or_else(|| after_yards(&records, sheet, given, names))
 }
 
 /// The questions that need the count of yards.
-fn after_yards(records: &[&[u8]], given: &Given, names: &Names) -> Option<Fault> {
+fn after_yards(records: &[&[u8]], sheet: Sheet, given: &Given, names: &Names) -> Option<Fault> {
     let m = records.iter().take_while(|record| record[0] == YARD).count();
     let n = (records.len() - m) / m;
-    let sheet = WellFormed { records, m, n, bands: bands::of(given.tariff) };
+    let sheet = WellFormed { records, m, n, bands: bands::of(sheet.tariff), names };
     places(records, m)
         .or_else(|| loads(records, m, names))
         .or_else(|| sheet.distances())
         .or_else(|| sheet.bounds())
-        .or_else(|| sheet.four_points(names))
+        .or_else(|| sheet.four_points())
         .or_else(|| beside(given, m, n, names))
 }
 
@@ -181,7 +180,13 @@ fn loads(records: &[&[u8]], m: usize, names: &Names) -> Option<Fault> {
     };
     let (at, words) = (m..records.len()).find_map(|at| Some((at, wrong(at)?)))?;
     let farm = names.farm(place(at, m).1);
-    at_record(10, records, at, format!("Its byte 3, the loads of {farm}, {words}"))
+    let cell = in_table(names.cells.loads(place(at, m).1));
+    at_record(10, records, at, format!("Its byte 3, the loads of {farm}, {words}{cell}"))
+}
+
+/// A line on where an amount or loads were typed, where that is known.
+fn in_table(cell: Option<Cell>) -> String {
+    cell.map_or(String::new(), |cell| format!("\nIt was typed in {cell}."))
 }
 
 /// Questions 7, 8, 14 and 9, where they are put.

@@ -5,7 +5,7 @@ use office::words::refusal::{first_fault, Given};
 use office::words::Names;
 use planner::bands::{bytes, following};
 use planner::table::Table;
-use planner::Tariff;
+use planner::{Sheet, Tariff};
 use std::collections::BTreeMap;
 
 /// How often each question was the first "no", and none was.
@@ -49,7 +49,7 @@ fn any_tariff(random: &mut Random, highest_rate: u64) -> Vec<u8> {
 }
 
 /// What is given beside the sheet and the tariff: k or a set and an area, or a set and the yard that is to shut.
-fn any_given(random: &mut Random) -> Given<'static> {
+fn any_given(random: &mut Random) -> Given {
     let (k, set) = (random.between(0, 5) as usize, random.between(0, 20) as u32);
     let lent = Given { area: Some(random.between(50, 100) as usize), ..Given::default() };
     match random.between(0, 2) {
@@ -62,7 +62,7 @@ fn any_given(random: &mut Random) -> Given<'static> {
     }
 }
 
-fn compare(sheet: &[u8], given: &Given, seen: &mut Seen) {
+fn compare(sheet: Sheet, given: &Given, seen: &mut Seen) {
     let found = first_fault(sheet, given, &Names::default()).map(|fault| fault.question);
     assert_eq!(found, number(sheet, given), "{sheet:?} {given:?}");
     *seen.entry(found).or_insert(0) += 1;
@@ -80,7 +80,7 @@ fn on_damaged_sheets() {
     let mut seen = Seen::new();
     for _ in 0..20_000 {
         let sheet = any_sheet(&mut random, (4, 8));
-        compare(&sheet, &any_given(&mut random), &mut seen);
+        compare(Sheet::of_hauls(&sheet), &any_given(&mut random), &mut seen);
     }
     // Without a tariff nothing is asked of one.
     seen.extend([(Some(11), 50), (Some(12), 50), (Some(13), 50)]);
@@ -96,11 +96,11 @@ fn on_damaged_sheets_of_distances_and_damaged_tariffs() {
         let sheet = any_sheet(&mut random, distances);
         let beside = any_given(&mut random);
         if round % 2 == 0 {
-            compare(&sheet, &Given { tariff: Tariff::House, ..beside }, &mut house);
+            compare(Sheet::of_distances(&sheet, Tariff::House), &beside, &mut house);
         } else {
             let highest_rate = [40, 60_000][random.between(0, 1) as usize];
             let tariff = any_tariff(&mut random, highest_rate);
-            compare(&sheet, &Given { tariff: Tariff::Given(&tariff), ..beside }, &mut given);
+            compare(Sheet::of_distances(&sheet, Tariff::Given(&tariff)), &beside, &mut given);
         }
     }
     // The house tariff is not asked 11 and 12.

@@ -1,16 +1,31 @@
-//! What the tool says: here the fault of every kind of refused call without a tariff, in `tariffs` those of tariffs and distances,
-//! in `shutting` what shutting a yard would change, in `agreement` that the tool and the library agree on damaged ones, in `commands`
-//! what the command line is answered.
+//! What the tool says: here the fault of every kind of refused call without a tariff, in `tariffs` those of tariffs and
+//! distances, in `shutting` what shutting a yard would change, in `agreement` that the tool and the library agree on damaged
+//! ones, and in `disagreement` what is said where they do not. The others run the tool as a program (`program`): `commands` has
+//! its statuses, `usage` the command line, `files` where it reads and writes, and the rest what each command makes and prints.
 mod agreement;
+mod cards;
 mod commands;
+mod compare;
+mod disagreement;
+mod files;
+mod lists;
+mod make;
+mod names;
+mod page;
+mod program;
+mod records;
+mod refusals;
 mod shutting;
+mod side_by_side;
 mod tariffs;
+mod usage;
 
+use office::list::Choice;
 use office::words::refusal::{explained, first_fault, Given};
-use office::words::{outcome, said, Names, Request};
+use office::words::{listed, outcome, Names};
 use planner::format::record;
 use planner::table::Table;
-use planner::{library, Answer, Tariff};
+use planner::{library, Answer, Refusal, Sheet};
 
 /// Document 01's sheet S: records 0 to 2 are yards, farm p's haul to yard y is record 3 + 3 p + y.
 fn s() -> Table {
@@ -64,25 +79,31 @@ fn shorter(records: usize) -> Vec<u8> {
 }
 
 /// The number that the library gives to the call described, if it refuses.
-fn number(sheet: &[u8], given: &Given) -> Option<u8> {
+fn number(sheet: Sheet, given: &Given) -> Option<u8> {
     let mut area = vec![0; given.area.unwrap_or(0)];
+    let Sheet { bytes, tariff } = sheet;
     let answer: Answer<()> = match (given.area, given.k, given.set) {
-        (None, _, Some(set)) => library::shut_by(sheet, given.tariff, set, given.shut.unwrap_or(0)).map(|_| ()),
-        (None, ..) => library::read_by(sheet, given.tariff).map(|_| ()),
-        (_, Some(k), _) => library::limited_plan_by(sheet, given.tariff, k, &mut area).map(|_| ()),
-        (_, _, Some(set)) => library::price_by(sheet, given.tariff, set, &mut area).map(|_| ()),
-        _ => library::open_plan_by(sheet, given.tariff, &mut area).map(|_| ()),
+        (None, _, Some(set)) => library::shut_by(bytes, tariff, set, given.shut.unwrap_or(0)).map(|_| ()),
+        (None, ..) => library::read_by(bytes, tariff).map(|_| ()),
+        (_, Some(k), _) => library::limited_plan_by(bytes, tariff, k, &mut area).map(|_| ()),
+        (_, _, Some(set)) => library::price_by(bytes, tariff, set, &mut area).map(|_| ()),
+        _ => library::open_plan_by(bytes, tariff, &mut area).map(|_| ()),
     };
     answer.err()
 }
 
 /// The library's number, the tool's question and its records are as told, and the words have this part.
-fn assert_fault(sheet: &[u8], given: Given, question: u8, records: &[usize], part: &str) {
+fn assert_fault_by(sheet: Sheet, given: Given, question: u8, records: &[usize], part: &str) {
     assert_eq!(number(sheet, &given), Some(question), "the library, at: {part}");
     let fault = first_fault(sheet, &given, &Names::default()).expect(part);
     assert_eq!((fault.question, &fault.records[..]), (question, records), "the tool, at: {part}");
-    let text = explained(question, sheet, &given, &Names::default()).expect(part);
+    let text = explained(Refusal(question), sheet, &given, &Names::default()).expect(part);
     assert!(text.contains(part) && text.starts_with(&format!("refused {question}\n")), "{part}, in: {text}");
+}
+
+/// The same of a sheet of hauls.
+fn assert_fault(sheet: &[u8], given: Given, question: u8, records: &[usize], part: &str) {
+    assert_fault_by(Sheet::of_hauls(sheet), given, question, records, part);
 }
 
 #[test]
@@ -173,7 +194,8 @@ fn a_number_without_its_fault_is_called_a_defect() {
         (99, shorter(1), "a defect"),
     ];
     for (number, sheet, part) in cases {
-        let said = outcome(Err(number), &sheet, &Given::default(), &Names::default());
+        let refused = Err(Refusal(number));
+        let said = outcome(refused, Sheet::of_hauls(&sheet), &Given::default(), &Names::default());
         assert_eq!(said.status, 3);
         assert!(said.text.contains(part), "{}", said.text);
     }
@@ -186,7 +208,8 @@ fn a_refusal_names_yards_and_farms() {
         farms: vec!["Hill".into(), "Mill".into()],
         ..Names::default()
     };
-    let said = said(Request::OpenPlan, &with_hauls([[1, 1], [1, 4]]), Tariff::None, &names);
+    let sheet = with_hauls([[1, 1], [1, 4]]);
+    let said = listed(Choice::Open, Sheet::of_hauls(&sheet), &names, |_| "a list".into());
     assert_eq!(said.status, 1);
     assert!(said.text.contains("a is yard 1 (South), b is yard 0 (North), p is farm 0 (Hill), q is farm 1 (Mill)."));
 }
@@ -194,7 +217,8 @@ fn a_refusal_names_yards_and_farms() {
 #[test]
 fn a_refusal_of_loads_is_told_in_these_words() {
     let names = Names { yards: vec![], farms: vec!["Hill".into(), "Mill".into()], ..Names::default() };
-    let said = outcome(Err(10), &with_loads([20, 21, 0]), &Given::default(), &names);
+    let sheet = with_loads([20, 21, 0]);
+    let said = outcome(Err(Refusal(10)), Sheet::of_hauls(&sheet), &Given::default(), &names);
     let text = "\
 refused 10
 Question 10: Loads (paper 2): is byte 3 of every haul record at most 20, and the same in all of a farm's records? No.

@@ -1,17 +1,17 @@
 //! What shutting a yard would change, in words, and the faults of a yard that cannot be shut.
-use super::{assert_fault, even, s, with_fee, with_hauls, with_loads};
+use super::{assert_fault, assert_fault_by, even, s, with_fee, with_hauls, with_loads};
 use office::words::refusal::Given;
 use office::words::{shutting, Names};
 use planner::bands::{bytes, following};
-use planner::Tariff;
+use planner::{Sheet, Tariff};
 
 fn names() -> Names {
     let list = |names: [&str; 3]| names.map(String::from).to_vec();
     Names { yards: list(["North", "Middle", "South"]), farms: list(["Hill", "Mill", "Lake"]), ..Names::default() }
 }
 
-fn assert_said(set: Option<u32>, sheet: &[u8], tariff: Tariff, names: &Names, status: u8, text: &str) {
-    let said = shutting::said(set, sheet, tariff, names);
+fn assert_said(set: Option<u32>, bytes: &[u8], tariff: Tariff, names: &Names, status: u8, text: &str) {
+    let said = shutting::said(set, Sheet { bytes, tariff }, names);
     assert_eq!((said.status, &said.text[..]), (status, text));
 }
 
@@ -19,6 +19,7 @@ fn assert_said(set: Option<u32>, sheet: &[u8], tariff: Tariff, names: &Names, st
 fn each_yard_of_the_open_plan_has_a_line() {
     let text = "\
 Shutting one yard of the open plan
+sheet: records 12, yards 3, farms 3
 
 yard          fee, cents  farms  shutting it, cents  its farms then go to yard
    0  North            1      1  costs 1 more        1
@@ -37,6 +38,7 @@ fn each_yard_of_a_set_has_a_line_with_its_loads() {
     sheet[8 + 4] = 40;
     let text = "\
 Shutting one yard of a set
+sheet: records 12, yards 3, farms 3
 
 yard  fee, cents  farms  loads  shutting it, cents  its farms then go to yard
    0           1      1      2  costs 3 more        1
@@ -54,6 +56,7 @@ fn a_list_by_a_tariff_says_so() {
     let by = Names { tariff: "free.tariff".into(), ..names() };
     let text = "\
 Shutting one yard of a set, by the tariff free.tariff
+sheet: records 12, yards 3, farms 3
 
 yard          fee, cents  farms  shutting it, cents  its farms then go to yard
    0  North            1      3  saves 1             2
@@ -80,8 +83,8 @@ The set has one yard, yard 1 (Middle): the only yard cannot be shut.
 
 #[test]
 fn a_sheet_or_a_set_that_is_refused_is_told_as_for_a_plan() {
-    let refused = |set, sheet: &[u8], tariff, part: &str| {
-        let said = shutting::said(set, sheet, tariff, &Names::default());
+    let refused = |set, bytes: &[u8], tariff, part: &str| {
+        let said = shutting::said(set, Sheet { bytes, tariff }, &Names::default());
         assert!(said.status == 1 && said.text.starts_with("refused ") && said.text.contains(part), "{}", said.text);
     };
     let sheet = s().sheet();
@@ -110,7 +113,7 @@ fn every_fault_of_a_yard_that_is_to_shut_is_found() {
     ];
     for (given, question, part) in cases {
         assert_fault(&s().sheet(), given, question, &[], part);
-        assert_fault(&s().sheet(), Given { tariff: Tariff::House, ..given }, question, &[], part);
+        assert_fault_by(Sheet::of_distances(&s().sheet(), Tariff::House), given, question, &[], part);
     }
     assert_fault(&with_loads([0, 21, 0]), given(0, 0), 10, &[6], "the loads of farm 1, is 21.");
 }

@@ -1,11 +1,12 @@
 //! The faults of tariffs and of distances, a tariff in words, and plans by a tariff.
-use super::{assert_fault, number, with_hauls};
+use super::{assert_fault_by, number, with_hauls};
+use office::list::Choice;
 use office::words::refusal::{first_fault, Given};
-use office::words::{outcome, said, tariffs, Names, Request};
+use office::words::{listed, outcome, tariffs, Names};
 use planner::bands::{bytes, following, haul, house};
 use planner::format::{amount, MOST_AREA, RECORD};
 use planner::table::Table;
-use planner::{library, Counts, Tariff};
+use planner::{library, Counts, Refusal, Sheet, Tariff};
 
 /// Three bands, of which record 1 goes from 100 to 250.
 fn three() -> Vec<u8> {
@@ -21,8 +22,8 @@ fn damaged(changes: &[(usize, u8)]) -> Vec<u8> {
     tariff
 }
 
-fn by(tariff: &[u8]) -> Given<'_> {
-    Given { tariff: Tariff::Given(tariff), ..Given::default() }
+fn by<'a>(sheet: &'a [u8], tariff: &'a [u8]) -> Sheet<'a> {
+    Sheet::of_distances(sheet, Tariff::Given(tariff))
 }
 
 fn many_bands(count: u16) -> Vec<u8> {
@@ -71,9 +72,10 @@ fn every_fault_of_a_tariff_is_found_in_its_record() {
     let sheets = [vec![], with_hauls([[1, 1], [1, 4]]), Table::s().sheet()];
     for (tariff, question, records, part) in cases {
         for sheet in &sheets {
-            assert_fault(sheet, by(&tariff), question, records, part);
-            let beside = Given { k: Some(0), area: Some(0), ..by(&tariff) };
-            assert_fault(sheet, beside, question, records, part);
+            let beside = Given { k: Some(0), area: Some(0), ..Given::default() };
+            for given in [Given::default(), beside] {
+                assert_fault_by(by(sheet, &tariff), given, question, records, part);
+            }
         }
     }
 }
@@ -82,8 +84,9 @@ fn every_fault_of_a_tariff_is_found_in_its_record() {
 fn tariffs_at_their_bounds_are_accepted() {
     let widest = [(u16::MAX - 1, u16::MAX), (u16::MAX, u16::MAX)];
     for tariff in [three(), many_bands(1), many_bands(16), bytes(&following(&widest)), bytes(&following(&[(1, 0)]))] {
-        assert_eq!(number(&Table::even(2, 2, 1, 1).sheet(), &by(&tariff)), None);
-        assert!(first_fault(&Table::even(2, 2, 1, 1).sheet(), &by(&tariff), &Names::default()).is_none());
+        let even = Table::even(2, 2, 1, 1).sheet();
+        assert_eq!(number(by(&even, &tariff), &Given::default()), None);
+        assert!(first_fault(by(&even, &tariff), &Given::default(), &Names::default()).is_none());
     }
 }
 
@@ -112,13 +115,15 @@ fn every_fault_of_distances_is_found_in_its_record() {
         (far(4), 6, &[5, 3, 2, 4], "The last three come to 3000; the first is more by 1000."),
     ];
     for (sheet, question, records, part) in cases {
-        assert_fault(&sheet, by(&tariff), question, records, part);
+        assert_fault_by(by(&sheet, &tariff), Given::default(), question, records, part);
     }
-    let given = Given { k: Some(3), area: Some(0), ..by(&tariff) };
-    assert_fault(&far(3), given, 7, &[], "k is 3. Asked: from 1 to 2");
-    let house = Given { tariff: Tariff::House, ..Given::default() };
-    assert_fault(&far(4_001), house, 13, &[5], "Asked: at most 4000, the last end of the tariff.");
-    assert_eq!(number(&with_hauls([[4_000; 2]; 2]), &house), None);
+    let given = Given { k: Some(3), area: Some(0), ..Given::default() };
+    assert_fault_by(by(&far(3), &tariff), given, 7, &[], "k is 3. Asked: from 1 to 2");
+    let (farther, farthest) = (far(4_001), with_hauls([[4_000; 2]; 2]));
+    let [farther, farthest] = [&farther, &farthest].map(|sheet| Sheet::of_distances(sheet, Tariff::House));
+    let part = "Asked: at most 4000, the last end of the tariff.";
+    assert_fault_by(farther, Given::default(), 13, &[5], part);
+    assert_eq!(number(farthest, &Given::default()), None);
 }
 
 /// The distances 1, 1, 1, 3 keep the rule at any rates that fall; 1, 1, 1, 4 keep it where the priced hauls do.
@@ -126,14 +131,16 @@ fn every_fault_of_distances_is_found_in_its_record() {
 fn question_6_is_about_the_priced_hauls() {
     let tariff = bytes(&following(&[(1, 9), (9, 6)]));
     let sheet = with_hauls([[1, 1], [1, 4]]);
-    assert_eq!((number(&sheet, &by(&tariff)), number(&sheet, &Given::default())), (None, Some(6)));
-    assert!(first_fault(&sheet, &by(&tariff), &Names::default()).is_none());
+    let numbers = [by(&sheet, &tariff), Sheet::of_hauls(&sheet)].map(|sheet| number(sheet, &Given::default()));
+    assert_eq!(numbers, [None, Some(6)]);
+    assert!(first_fault(by(&sheet, &tariff), &Given::default(), &Names::default()).is_none());
 }
 
 #[test]
 fn refusals_by_a_tariff_are_told_in_these_words() {
     let names = Names { farms: vec!["Hill".into(), "Mill".into()], ..Names::default() };
-    let told = said(Request::OpenPlan, &with_hauls([[1, 1], [1, 4]]), Tariff::House, &names);
+    let sheet = with_hauls([[1, 1], [1, 4]]);
+    let told = listed(Choice::Open, Sheet::of_distances(&sheet, Tariff::House), &names, |_| "a list".into());
     let text = "\
 refused 6
 Question 6: Four-point rule: for all yards a, b and all farms p, q, is haul(a, q) at most haul(a, p) + haul(b, p) + haul(b, q)? No.
@@ -143,6 +150,7 @@ haul(a, p) is 40, priced from the distance 1, record 3 at byte 24.
 haul(b, p) is 40, priced from the distance 1, record 2 at byte 16.
 haul(b, q) is 40, priced from the distance 1, record 4 at byte 32.
 The last three come to 120; the first is more by 40.
+Choices of a, b, p, q that break the rule: 1. No haul is in more of them than every other.
 ";
     assert_eq!((told.status, &told.text[..]), (1, text));
     let told = tariffs::read(&damaged(&[(14, 41)]));
@@ -169,12 +177,12 @@ fn where_tool_and_library_disagree_on_a_tariff_that_is_called_a_defect() {
         (&good, accepted, 3, "accepts an empty sheet"),
     ];
     for (tariff, answer, status, part) in cases {
-        let said = tariffs::outcome(answer, Tariff::Given(tariff), "passes".into());
+        let said = tariffs::outcome(answer.map_err(Refusal), Tariff::Given(tariff), "passes".into());
         assert!(said.status == status && said.text.contains(part), "{answer:?} {part}: {}", said.text);
     }
     let sheet = with_hauls([[1; 2]; 2]);
     for (number, tariff, part) in [(13, &good, "no fault at all"), (5, &gap, "a fault of question 11")] {
-        let said = outcome(Err(number), &sheet, &by(tariff), &Names::default());
+        let said = outcome(Err(Refusal(number)), by(&sheet, tariff), &Given::default(), &Names::default());
         assert!(said.status == 3 && said.text.contains(part), "{}", said.text);
     }
 }
@@ -207,7 +215,7 @@ fn a_sheet_of_distances_without_a_tariff_is_refused_where_every_tariff_refuses_i
         |far: u32, loads: u8| Table { loads: vec![loads; 2], ..Table::new(vec![0; 2], vec![vec![far, 1]; 2]) }.sheet();
     let refused = "No tariff was given; this sheet of distances is refused by every tariff.\n";
     for (far, loads, status, parts) in [
-        (65_535, 20, 0, ["written as a sheet of distances: yards 2, farms 2\n", "No tariff was given"]),
+        (65_535, 20, 0, ["written as a sheet of distances: records 6, yards 2, farms 2\n", "No tariff was given"]),
         (65_536, 20, 1, ["refused 13\n", refused]),
         (65_536, 21, 1, ["refused 10\n", refused]),
     ] {
