@@ -93,7 +93,8 @@ fn of_sheet(command: &str, file: &OsStr, words: &[&OsStr], arguments: &Arguments
     Ok(Some(match asked {
         Asked::Show if arguments.has("--csv") => shown_as_table(&loaded),
         Asked::Show => shown(sheet, names),
-        Asked::Lists(range) => side_by_side(range, sheet, names),
+        Asked::Lists(range) if arguments.has("--csv") => side_by_side(range, sheet, names, side_by_side::csv),
+        Asked::Lists(range) => side_by_side(range, sheet, names, side_by_side::words),
         Asked::Shut(set) => shutting::said(set, sheet, names),
         Asked::Compare(first, second) => compare([(&loaded, first), (&loaded, second)])?,
         Asked::List(choice) => listed_as(command, choice, &loaded, arguments)?,

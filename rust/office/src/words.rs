@@ -133,8 +133,11 @@ pub fn listed(choice: Choice, sheet: Sheet, names: &Names, form: impl FnOnce(&Li
     agreed(disagreement, outcome(list.map(|list| form(&list)), sheet, &given(choice), names))
 }
 
+/// Lists side by side put in some form.
+pub type ListsForm = fn(&[List], Sheet, &Names) -> String;
+
 /// The open list and the limited ones for a range of k that is not empty, or for every k of the sheet.
-pub fn side_by_side(ks: Option<RangeInclusive<usize>>, sheet: Sheet, names: &Names) -> Said {
+pub fn side_by_side(ks: Option<RangeInclusive<usize>>, sheet: Sheet, names: &Names, form: ListsForm) -> Said {
     let all = |counts: Counts| 1..=counts.yards;
     let ks = ks.unwrap_or_else(|| sheet.read().map_or(1..=1, all));
     let lists = List::of(sheet, Choice::Open).and_then(|open| {
@@ -144,7 +147,7 @@ pub fn side_by_side(ks: Option<RangeInclusive<usize>>, sheet: Sheet, names: &Nam
     let disagreement = lists.iter().flatten().find_map(List::disagreement);
     // Where the range leaves the sheet, its lower end does, or its upper end.
     let k = if *ks.start() == 0 { 0 } else { *ks.end() };
-    let text = lists.map(|lists| side_by_side::words(&lists, sheet, names));
+    let text = lists.map(|lists| form(&lists, sheet, names));
     agreed(disagreement, outcome(text, sheet, &given(Choice::Limited(k)), names))
 }
 

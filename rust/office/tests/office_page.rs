@@ -39,8 +39,8 @@ fn examples() -> Vec<Example> {
 }
 
 /// A folder of its own, with the example sheets where the page has them.
-fn folder() -> PathBuf {
-    let folder = Path::new(env!("CARGO_TARGET_TMPDIR")).join("office_page");
+fn folder(test: &str) -> PathBuf {
+    let folder = Path::new(env!("CARGO_TARGET_TMPDIR")).join(test);
     let _ = fs::remove_dir_all(&folder);
     fs::create_dir_all(&folder).unwrap();
     symlink(Path::new(env!("CARGO_MANIFEST_DIR")).join("../../sheets"), folder.join("sheets")).unwrap();
@@ -67,7 +67,7 @@ fn is_shown(lines: &[&str], shown: &[&str]) -> bool {
 
 #[test]
 fn every_command_prints_what_the_page_shows() {
-    let (folder, examples) = (folder(), examples());
+    let (folder, examples) = (folder("office-page"), examples());
     assert!(examples.len() >= 12, "{} commands", examples.len());
     for Example { words, shown } in examples {
         let said = said(&words, &folder);
@@ -75,4 +75,12 @@ fn every_command_prints_what_the_page_shows() {
         assert!(shown.iter().any(|line| !line.is_empty()), "nothing is shown under {words:?}");
         assert!(is_shown(&lines, &shown), "{words:?} is shown with\n{}\nand prints\n{said}", shown.join("\n"));
     }
+}
+
+/// The page that the office prints is kept beside its example.
+#[test]
+fn the_printed_page_of_the_boerde_is_what_the_tool_prints() {
+    let words = "page sheets/boerde.sheet --names sheets/boerde.csv --places sheets/boerde-places.csv";
+    let said = said(&words.split(' ').collect::<Vec<_>>(), &folder("printed-page"));
+    assert!(said == include_str!("../../../sheets/boerde.html"), "{said}");
 }

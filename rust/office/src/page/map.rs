@@ -21,15 +21,24 @@ pub fn svg(plan: &Plan, names: &Names, places: &[Place]) -> String {
     let at = |asked: &str, is_yard: bool| {
         map.at(places.iter().find(|place| place.name == asked && place.is_yard == is_yard))
     };
-    let farms = plan.farms.iter().filter_map(|farm| {
-        let (from, to) = (at(names.farms.get(farm.farm)?, false)?, at(names.yards.get(farm.yard)?, true)?);
-        Some(way(from, to) + &farm_mark(from, farm.farm))
-    });
-    let yards = names.yards.iter().enumerate().filter_map(|(yard, name)| {
-        let leased = plan.yards.iter().any(|open| open.yard == yard);
-        Some(yard_mark(at(name, true)?, &escaped(name), leased))
-    });
-    let marks: String = farms.chain(yards).collect();
+    let farms: Vec<(Spot, Spot, usize)> = plan
+        .farms
+        .iter()
+        .filter_map(|farm| {
+            Some((at(names.farms.get(farm.farm)?, false)?, at(names.yards.get(farm.yard)?, true)?, farm.farm))
+        })
+        .collect();
+    let yards: Vec<(Spot, usize)> =
+        names.yards.iter().enumerate().filter_map(|(yard, name)| Some((at(name, true)?, yard))).collect();
+    let is_leased = |yard: usize| plan.yards.iter().any(|open| open.yard == yard);
+    // Names lie above ways and below marks, so that no mark is hidden.
+    let marks: String = [
+        farms.iter().map(|&(from, to, _)| way(from, to)).collect::<String>(),
+        yards.iter().map(|&(at, yard)| yard_name(at, &escaped(&names.yards[yard]))).collect(),
+        farms.iter().map(|&(at, _, farm)| farm_mark(at, farm)).collect(),
+        yards.iter().map(|&(at, yard)| yard_mark(at, is_leased(yard))).collect(),
+    ]
+    .concat();
     let height = map.height;
     format!(
         "<svg class=\"map\" viewBox=\"0 0 {WIDTH} {height:.0}\" role=\"img\" aria-label=\"Map of yards and farms\">\n{marks}</svg>\n\
@@ -37,6 +46,9 @@ pub fn svg(plan: &Plan, names: &Names, places: &[Place]) -> String {
          yard.</small></p>\n"
     )
 }
+
+/// A place on the map, counted from its left and its top.
+type Spot = (f64, f64);
 
 /// How degrees become places on the map.
 struct Map {
@@ -66,26 +78,30 @@ impl Map {
         Some(Map { west, north, narrower, scale, left, height })
     }
 
-    fn at(&self, place: Option<&Place>) -> Option<(f64, f64)> {
+    fn at(&self, place: Option<&Place>) -> Option<Spot> {
         let place = place?;
         let east = self.narrower * (place.longitude - self.west) * self.scale;
         Some((self.left + east, MARGIN + (self.north - place.latitude) * self.scale))
     }
 }
 
-fn way((x, y): (f64, f64), (to_x, to_y): (f64, f64)) -> String {
+fn way((x, y): Spot, (to_x, to_y): Spot) -> String {
     format!("<line class=\"way\" x1=\"{x:.1}\" y1=\"{y:.1}\" x2=\"{to_x:.1}\" y2=\"{to_y:.1}\"/>\n")
 }
 
-fn farm_mark((x, y): (f64, f64), farm: usize) -> String {
+fn farm_mark((x, y): Spot, farm: usize) -> String {
     let (right, above) = (x + 5.0, y - 4.0);
     let mark = format!("<circle class=\"farm\" cx=\"{x:.1}\" cy=\"{y:.1}\" r=\"3\"/>");
     format!("{mark}<text class=\"number\" x=\"{right:.1}\" y=\"{above:.1}\">{farm}</text>\n")
 }
 
-fn yard_mark((x, y): (f64, f64), name: &str, leased: bool) -> String {
-    let (left, top, right, below) = (x - 5.0, y - 5.0, x + 9.0, y + 4.0);
+fn yard_mark((x, y): Spot, leased: bool) -> String {
+    let (left, top) = (x - 5.0, y - 5.0);
     let class = if leased { "leased" } else { "left" };
-    let mark = format!("<rect class=\"{class}\" x=\"{left:.1}\" y=\"{top:.1}\" width=\"10\" height=\"10\"/>");
-    format!("{mark}<text x=\"{right:.1}\" y=\"{below:.1}\">{name}</text>\n")
+    format!("<rect class=\"{class}\" x=\"{left:.1}\" y=\"{top:.1}\" width=\"10\" height=\"10\"/>\n")
+}
+
+fn yard_name((x, y): Spot, name: &str) -> String {
+    let (right, below) = (x + 9.0, y + 4.0);
+    format!("<text x=\"{right:.1}\" y=\"{below:.1}\">{name}</text>\n")
 }

@@ -148,9 +148,9 @@ fn names_of(sheet: &[u8], file: &str, tables: &[&OsStr], tariff: Tariff) -> Resu
             let asked = "give the tariff that prices them, --tariff FILE or --house-tariff";
             Err(refused(format!("{named} has distances, so {file} is a sheet of distances: {asked}\n")))
         }
-        (Amounts::Hauls, Tariff::House | Tariff::Given(_)) => Err(refused(format!(
-            "{named} has hauls in cents, so {file} is no sheet of distances and takes no tariff\n"
-        ))),
+        (Amounts::Hauls, Tariff::House | Tariff::Given(_)) => {
+            Err(refused(format!("{named} has hauls, so {file} is no sheet of distances and takes no tariff\n")))
+        }
         _ => Ok(typed.names),
     }
 }

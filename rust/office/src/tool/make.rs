@@ -15,7 +15,7 @@ pub fn sheet(tables: &[&OsStr], file: &OsStr, arguments: &Arguments) -> Result<T
     let (bytes, tariff) = (typed.table.sheet(), pricing.tariff());
     held_to_folder(&bytes, &files::names(tables), arguments)?;
     if typed.amounts == Amounts::Hauls && tariff != Tariff::None {
-        return Err(refused(format!("{} has hauls in cents, and a tariff is for distances\n", files::names(tables))));
+        return Err(refused(format!("{} has hauls, and a tariff is for distances\n", files::names(tables))));
     }
     if arguments.value("--tariff").is_some_and(|tariff| files::is_same(file, tariff)) {
         let file = files::name(file);

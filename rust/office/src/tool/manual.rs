@@ -65,7 +65,7 @@ pub const MANUALS: [Manual; 14] = [
             ("lists FILE", "the open list and the limited ones for every K side by side"),
             ("lists FILE FROM TO", "the same for K from FROM to TO"),
         ],
-        options: &SHEET,
+        options: &["--names", "--records", "--tariff", "--house-tariff", "--csv"],
         more: "",
     },
     Manual {

@@ -132,7 +132,7 @@ fn the_tool_makes_sheets_of_distances_with_these_statuses() {
         ("make far.csv far.sheet --tariff empty.tariff --force", 1, "", "refused 11\n"),
         ("make farther.csv farther.sheet --tariff good.tariff", 1, "", "Its distance is 251. Asked: at most 250,"),
         ("make farthest.csv farthest.sheet", 1, "", "this sheet of distances is refused by every tariff"),
-        ("make near.csv near.sheet --house-tariff", 1, "", "has hauls in cents, and a tariff is for distances"),
+        ("make near.csv near.sheet --house-tariff", 1, "", "has hauls, and a tariff is for distances"),
         ("show near.sheet", 2, "", "near.sheet cannot be read"),
         ("make near.csv near.sheet", 0, "", "accepted: records 6, yards 2, farms 2\n"),
         ("make far.csv good.tariff --tariff ./good.tariff", 2, "", "good.tariff is the tariff itself"),

@@ -101,3 +101,19 @@ fn one_yard_has_one_limited_list() {
     let unused = folder.said("lists unused.sheet 2 2");
     assert!(unused.lines().any(|line| line.starts_with("k = 2") && line.ends_with("  0, 1   1")), "{unused}");
 }
+
+#[test]
+fn as_csv_the_lists_are_numbers_alone() {
+    let folder = Folder::with_sheets("side-by-side-csv", &[("boerde", BOERDE)]);
+    let said = folder.said("lists boerde.sheet 1 3 --csv");
+    let heads = "list,fees,hauls,fees and hauls,no list is below,above it by at most,yards,no farm goes to";
+    let lines: Vec<&str> = said.lines().collect();
+    assert!(lines[0] == heads && lines.len() == 5, "{said}");
+    for (k, (line, (fees, hauls))) in lines[1..].iter().zip(BOERDE_LISTS).enumerate() {
+        let (list, total) = if k == 0 { ("open".into(), fees + hauls) } else { (format!("k = {k}"), hauls) };
+        assert!(line.starts_with(&format!("{list},{fees},{hauls},{},", fees + hauls)), "{line}");
+        let numbers: Vec<u64> = line.split(',').skip(4).take(2).map(|cell| cell.parse().unwrap()).collect();
+        assert_eq!(numbers[0] + numbers[1], total, "{line}");
+    }
+    assert!(lines[3].ends_with(",\"3, 4\",") && lines[2].ends_with(",9,"), "{said}");
+}

@@ -91,7 +91,7 @@ fn wrong_commands_and_options_are_named() {
         ("plan s.sheet -x", "-x is no option. `sheet help` has them all.\n"),
         ("plan s.sheet -1", "-1 is no option. `sheet help` has them all.\n"),
         ("plan s.sheet --force", "plan does not take --force\n\nsheet plan FILE"),
-        ("lists s.sheet --csv", "lists does not take --csv\n\nsheet lists FILE"),
+        ("shut s.sheet --csv", "shut does not take --csv\n\nsheet shut FILE"),
         ("plan s.sheet --csv=yes", "--csv takes no value\n"),
         ("plan s.sheet --csv --csv", "--csv is given twice\n"),
         ("page s.sheet --places a.csv --places b.csv", "--places is given twice\n"),
