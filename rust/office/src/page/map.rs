@@ -11,7 +11,7 @@ const MARGIN: f64 = 24.0;
 const ROOM_FOR_NAMES: f64 = 90.0;
 /// How high a map is, that a list of some thirty farms fits one sheet of paper with it.
 const LEAST_HEIGHT: f64 = 120.0;
-const MOST_HEIGHT: f64 = 300.0;
+const MOST_HEIGHT: f64 = 315.0;
 
 /// The map, or nothing without places.
 pub fn svg(plan: &Plan, names: &Names, places: &[Place]) -> String {
