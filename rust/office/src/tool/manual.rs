@@ -9,7 +9,10 @@ pub struct Manual {
     pub more: &'static str,
 }
 
+/// The options of commands about a sheet, of those that print CSV too, and of those that print document 01's lines as well.
 const SHEET: [&str; 4] = ["--names", "--records", "--tariff", "--house-tariff"];
+const SHEET_OR_CSV: [&str; 5] = ["--names", "--records", "--tariff", "--house-tariff", "--csv"];
+const SHEET_CSV_OR_LINES: [&str; 6] = ["--names", "--records", "--tariff", "--house-tariff", "--csv", "--lines"];
 
 const LIST: &str = "\
 LIST is open, the count K of a limited list, or a set of yards by their numbers, as yards=0,2. Without one it is the open list.
@@ -44,19 +47,19 @@ pub const MANUALS: [Manual; 14] = [
     Manual {
         command: "show",
         forms: &[("show FILE", "the sheet as a table, with why it is refused where it is")],
-        options: &["--names", "--records", "--tariff", "--house-tariff", "--csv"],
+        options: &SHEET_OR_CSV,
         more: "With --csv it is a table that makes the sheet again.\n",
     },
     Manual {
         command: "plan",
         forms: &[("plan FILE", "the open list"), ("plan FILE K", "the limited list for K yards")],
-        options: &["--names", "--records", "--tariff", "--house-tariff", "--csv", "--lines"],
+        options: &SHEET_CSV_OR_LINES,
         more: "",
     },
     Manual {
         command: "price",
         forms: &[("price FILE YARD ..", "the price of a set of yards, given by their numbers")],
-        options: &["--names", "--records", "--tariff", "--house-tariff", "--csv", "--lines"],
+        options: &SHEET_CSV_OR_LINES,
         more: "",
     },
     Manual {
@@ -65,7 +68,7 @@ pub const MANUALS: [Manual; 14] = [
             ("lists FILE", "the open list and the limited ones for every K side by side"),
             ("lists FILE FROM TO", "the same for K from FROM to TO"),
         ],
-        options: &["--names", "--records", "--tariff", "--house-tariff", "--csv"],
+        options: &SHEET_OR_CSV,
         more: "",
     },
     Manual {
@@ -92,13 +95,13 @@ pub const MANUALS: [Manual; 14] = [
     Manual {
         command: "cards",
         forms: &[("cards FILE [LIST]", "a card for each grower, naming the yard")],
-        options: &["--names", "--records", "--tariff", "--house-tariff", "--csv"],
+        options: &SHEET_OR_CSV,
         more: LIST,
     },
     Manual {
         command: "yards",
         forms: &[("yards FILE [LIST]", "for each yard the farms that go to it")],
-        options: &["--names", "--records", "--tariff", "--house-tariff", "--csv"],
+        options: &SHEET_OR_CSV,
         more: LIST,
     },
     Manual {
@@ -140,10 +143,7 @@ pub fn manual(command: &str) -> Option<&'static Manual> {
 impl Manual {
     /// The command's forms, its options and what else is to know.
     pub fn text(&self) -> String {
-        let options = OPTIONS.iter().filter(|spec| self.options.contains(&spec.name));
-        let options: String =
-            options.map(|spec| line(&[spec.name, spec.value.unwrap_or("")].join(" "), spec.words)).collect();
-        let parts = [self.lines(), options, self.more.into()];
+        let parts = [self.lines(), option_lines(|option| self.options.contains(&option)), self.more.into()];
         parts.into_iter().filter(|part| !part.is_empty()).collect::<Vec<_>>().join("\n")
     }
 
@@ -156,13 +156,17 @@ fn line(left: &str, right: &str) -> String {
     format!("{left:<37} {right}\n")
 }
 
+/// The options that are asked for, each with what it is for.
+fn option_lines(is_asked: impl Fn(&str) -> bool) -> String {
+    let options = OPTIONS.iter().filter(|spec| is_asked(spec.name));
+    options.map(|spec| line(&[spec.name, spec.value.unwrap_or("")].join(" "), spec.words)).collect()
+}
+
 /// All commands, all options and the exit statuses.
 pub fn overview() -> String {
     let commands: String = MANUALS.iter().map(Manual::lines).collect();
-    let options = OPTIONS.iter().map(|spec| line(&[spec.name, spec.value.unwrap_or("")].join(" "), spec.words));
-    let options: String = options.collect();
     let files = "A FILE or a table may be -, standard input. Words after -- are no options.\n";
-    format!("{commands}\n{options}\n{files}{STATUSES}")
+    format!("{commands}\n{}\n{LIST}{files}{STATUSES}", option_lines(|_| true))
 }
 
 /// Which of these a wrong word may stand for, if one is near.

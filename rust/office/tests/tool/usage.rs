@@ -41,9 +41,9 @@ fn help_is_a_result_with_every_command_option_and_status() {
     for option in ["--csv", "--lines", "--force", "--help", "--version"] {
         assert!(help.lines().any(|line| line.starts_with(&format!("{option} "))), "{option}");
     }
-    assert!(help.contains("\nExit status: 0 accepted"), "{help}");
+    assert!(help.contains("\nLIST is open,") && help.contains("\nExit status: 0 accepted"), "{help}");
     // What a form or an option does stands in one column.
-    let described = help.lines().take_while(|line| !line.starts_with("A FILE")).filter(|line| !line.is_empty());
+    let described = help.lines().take_while(|line| !line.starts_with("LIST is")).filter(|line| !line.is_empty());
     for line in described {
         let (left, right) = (line.chars().take(38).collect::<String>(), line.chars().nth(38).unwrap());
         assert!(left.ends_with(' ') && right != ' ', "{line}");
