@@ -3,8 +3,8 @@
 use std::error::Error;
 use std::fmt;
 
-/// The number of the first question that is answered no.
-#[derive(Clone, Copy, Debug, PartialEq, Eq, Hash)]
+/// The number of the first question that is answered no. Where a program ends with it, it is told in words: `Debug` is `Display`.
+#[derive(Clone, Copy, PartialEq, Eq, Hash)]
 pub struct Refusal(pub u8);
 
 impl Refusal {
@@ -21,6 +21,12 @@ impl fmt::Display for Refusal {
             Some(question) => write!(to, "refused {}: {question} No.", self.0),
             None => write!(to, "refused {}, which is no question's number", self.0),
         }
+    }
+}
+
+impl fmt::Debug for Refusal {
+    fn fmt(&self, to: &mut fmt::Formatter) -> fmt::Result {
+        fmt::Display::fmt(self, to)
     }
 }
 

@@ -50,6 +50,7 @@ fn a_refusal_is_an_error_in_words() {
         (Refusal(0), "refused 0, which is no question's number"),
     ];
     for (refusal, words) in refusals {
+        assert_eq!(format!("{refusal:?}"), refusal.to_string());
         let error: Box<dyn Error> = refusal.into();
         assert!(error.to_string().starts_with(words), "{error}");
     }
