@@ -16,7 +16,7 @@ module _ (f : ℕ → ℕ) (s : List ℕ) (whole : length s ≡ 8 * records s)
   kept : (g : Record → ℕ) → ((r : Record) → g (pricedRecord f r) ≡ g r) → (i : ℕ) → i < records s → g (recordAt (pricedSheet f s) i) ≡ g (recordAt s i)
   kept g keeps i l = ap g (priced-record-at f s fits i l) ∙ keeps (recordAt s i)
 
-  form-same : SameForm (pricedSheet f s) s
+  pub form-same : SameForm (pricedSheet f s) s
   form-same =
       record {
         as-long = sheet-length f s ∙ sym whole;

@@ -26,6 +26,7 @@ use Rattle.questions.specs.Reading.{Counts, formAndLoads}
 use Rattle.questions.proofs.FormLaws.{hauls-are}
 use Rattle.questions.proofs.AcceptedLaws.{HasForm, has-form}
 use Rattle.questions.proofs.ReadingLaws.{loaded}
+use Rattle.questions.proofs.SameFormLaws.{same-yards}
 use Rattle.tariff.specs.declared.TariffChoice.the-variants.{HouseTariff, GivenTariff}
 use Rattle.tariff.specs.Bands.{Bands, haulBy, lastEnd}
 use Rattle.tariff.specs.House.{house, haulFromStart}
@@ -35,6 +36,7 @@ use Rattle.tariff.proofs.MakingLaws.{Allowed, hauls-fit, read-allowed}
 use Rattle.tariff.proofs.HouseLaws.{house-allowed, hauls-stay}
 use Rattle.distances.specs.Priced.{pricedRecord, pricedSheet, question13, pricedBy, underTariff, underGiven, sheetBy}
 use Rattle.distances.proofs.PricedLaws.{priced-haul, priced-other, keeps-byte3, priced-record-at}
+use Rattle.distances.proofs.FormKept.{form-same}
 
 -- The hauls h of the distances s of m yards and n farms, by the bands b.
 pub record HaulsOf (b : Bands) (s h : List ℕ) (m n : ℕ) : Type 0 where
@@ -51,8 +53,11 @@ module _ (b : Bands) (allowed : Allowed b) (s : List ℕ) (bytes : Bytes s) (m n
   fits i l =
       cases (eqb (recordAt s i .kind) haulKind) (λ e. rw e (hauls-fit b allowed (recordAt s i .amount))) (λ e. rw e (amount-small s bytes i))
 
-  record-is : (i : ℕ) → i < records s → recordAt (pricedSheet (haulBy b) s) i ≡ pricedRecord (haulBy b) (recordAt s i)
+  pub record-is : (i : ℕ) → i < records s → recordAt (pricedSheet (haulBy b) s) i ≡ pricedRecord (haulBy b) (recordAt s i)
   record-is i l = priced-record-at (haulBy b) s fits i l
+
+  pub yards-kept : yards (pricedSheet (haulBy b) s) ≡ yards s
+  yards-kept = same-yards (pricedSheet (haulBy b) s) s (form-same (haulBy b) s (omega (arith, f .long)) fits)
 
   place-within : (a p : ℕ) → a < m → p < n → place m p a < records s
   place-within a p la lp = let row : p * m + m ≤ n * m = omega (arith, mul-le-mul-right m lp) in omega (arith, f .long)
@@ -96,28 +101,31 @@ module _ (b : Bands) (allowed : Allowed b) (s : List ℕ) (bytes : Bytes s) (m n
             (all-at (amountWithin s (yards s) (lastEnd b)) (hauls s) (p * m + a) q (omega (arith, hauls-are s, f .long, f .yards-are)))),
       )
 
-pub priced-hauls : (b : Bands) → Allowed b → (s h : List ℕ) → Bytes s → underTariff b s ≡ accepted h → (c : Counts) × HaulsOf b s h (c .yards) (c .farms)
+-- an accepted sheet of distances has the form, no distance of it is past the reach, and the sheet of hauls is the priced one
+pub priced-is : (b : Bands) (s h : List ℕ) → underTariff b s ≡ accepted h
+    → (c : Counts) × HasForm s (c .yards) (c .farms) × (question13 (lastEnd b) s ≡ true) × (pricedSheet (haulBy b) s ≡ h)
 unfolding pricedBy
-priced-hauls b allowed s h bytes accepts =
+priced-is b s h accepts =
     let formed = passed-first (formAndLoads s) (λ c. ask (question13 (lastEnd b) s) 13 (accepted (pricedSheet (haulBy b) s))) h accepts in
     let c = formed .0 in
-    let near = asked (question13 (lastEnd b) s) 13 (accepted (pricedSheet (haulBy b) s)) h (formed .2) in (
+    let near = asked (question13 (lastEnd b) s) 13 (accepted (pricedSheet (haulBy b) s)) h (formed .2) in
+    (c, has-form s (c .yards) (c .farms) (loaded s (c .yards) (c .farms) (formed .1) .0), near .0, same-result (near .1))
+
+pub priced-hauls : (b : Bands) → Allowed b → (s h : List ℕ) → Bytes s → underTariff b s ≡ accepted h → (c : Counts) × HaulsOf b s h (c .yards) (c .farms)
+priced-hauls b allowed s h bytes accepts =
+    let p = priced-is b s h accepts in
+    let c = p .0 in (
       c,
-      subst (λ (x : List ℕ). HaulsOf b s x (c .yards) (c .farms)) (same-result (near .1))
-          (hauls-of c (has-form s (c .yards) (c .farms) (loaded s (c .yards) (c .farms) (formed .1) .0)) (near .0)),
+      subst (λ (x : List ℕ). HaulsOf b s x (c .yards) (c .farms)) (p .3)
+          (record {
+            distances-form = p .1;
+            within-reach = reach-is b allowed s bytes (c .yards) (c .farms) (p .1) (p .2);
+            hauls-charged = haul-is b allowed s bytes (c .yards) (c .farms) (p .1);
+            fees-kept = fee-is b allowed s bytes (c .yards) (c .farms) (p .1);
+            loads-kept = loads-is b allowed s bytes (c .yards) (c .farms) (p .1);
+            metric-kept = hauls-metric b allowed s bytes (c .yards) (c .farms) (p .1);
+          }),
     )
-  where
-    hauls-of : (c : Counts) → HasForm s (c .yards) (c .farms) → question13 (lastEnd b) s ≡ true
-        → HaulsOf b s (pricedSheet (haulBy b) s) (c .yards) (c .farms)
-    hauls-of c f near =
-        record {
-          distances-form = f;
-          within-reach = reach-is b allowed s bytes (c .yards) (c .farms) f near;
-          hauls-charged = haul-is b allowed s bytes (c .yards) (c .farms) f;
-          fees-kept = fee-is b allowed s bytes (c .yards) (c .farms) f;
-          loads-kept = loads-is b allowed s bytes (c .yards) (c .farms) f;
-          metric-kept = hauls-metric b allowed s bytes (c .yards) (c .farms) f;
-        }
 
 -- of a call by the house tariff
 pub by-house : (tariff s h : List ℕ) → Bytes s → sheetBy HouseTariff tariff s ≡ accepted h → (c : Counts) × HaulsOf house s h (c .yards) (c .farms)

@@ -27,27 +27,26 @@ use Rattle.questions.specs.Questions.{amountWithin, question5, question6}
 use Rattle.questions.specs.Reading.{counts, formAndLoads, reading}
 use Rattle.questions.proofs.ReadingLaws.{accepted-when, reading-yes}
 use Rattle.questions.proofs.FormLaws.{yards-le, hauls-are}
-use Rattle.questions.proofs.AcceptedLaws.{accepts, facilities-are}
+use Rattle.questions.proofs.AcceptedLaws.{HasForm, accepts, facilities-are}
 use Rattle.questions.proofs.SameFormLaws.{SameForm, place-within, same-yards, same-hauls, same-farms, same-loads, same-form-and-loads}
 use Rattle.floor.specs.Offering.{offering, WithFees}
 use Rattle.floor.proofs.OfferingLaws.{passed}
 
-module _ (amount : ℕ) (s t : List ℕ) (w : WithFees amount s t) (m n : ℕ) (e : reading s ≡ accepted (counts m n)) where
-  -- ---- the copy has the form of the sheet, its hauls and its loads
+-- ---- the copy has the form of the sheet
 
+module _ (amount : ℕ) (s t : List ℕ) (w : WithFees amount s t) (m n : ℕ) (has : HasForm s m n) where
   -- what a yard's record has whatever its fee is, stands in the copy too
   agree : (g : Record → ℕ) → ((i x y : ℕ) → g (recordOf yardKind i 0 0 x) ≡ g (recordOf yardKind i 0 0 y))
       → (i : ℕ) → i < records s → g (recordAt t i) ≡ g (recordAt s i)
   agree g any-fee i l =
-      let has = accepts s m n e .has in
       elim (decLt i (yards s)) [
         | yes below ↦
             ap g (w .yard-records i below) ∙ any-fee i amount (fee s i) ∙ sym (ap g (has .yard-record i (omega (arith, has .yards-are))))
         | no above ↦ ap g (w .other-records i (omega arith) l)
       ]
 
-  form-same : SameForm t s
-  form-same =
+  pub copy-form : SameForm t s
+  copy-form =
       record {
         as-long = w .as-long;
         same-kind = agree (λ r. r .kind) (λ i x y. refl);
@@ -55,6 +54,20 @@ module _ (amount : ℕ) (s t : List ℕ) (w : WithFees amount s t) (m n : ℕ) (
         same-farm = agree (λ r. r .farm) (λ i x y. refl);
         same-byte3 = agree (λ r. r .byte3) (λ i x y. refl);
       }
+
+  -- so have all amounts behind the fees the same answer to a bound
+  pub copy-within : (most : ℕ) → allBelow (hauls t) (amountWithin t (yards t) most) ≡ allBelow (hauls s) (amountWithin s (yards s) most)
+  unfolding amountWithin
+  copy-within most =
+      rw (same-yards t s copy-form, same-hauls t s copy-form)
+      (all-cong (hauls s) (amountWithin t (yards s) most) (amountWithin s (yards s) most)
+      (λ i l. ap (λ (r : Record). leb (r .amount) most) (w .other-records (yards s + i) (omega arith) (omega (arith, hauls-are s, yards-le s)))))
+
+module _ (amount : ℕ) (s t : List ℕ) (w : WithFees amount s t) (m n : ℕ) (e : reading s ≡ accepted (counts m n)) where
+  -- ---- its hauls and its loads
+
+  form-same : SameForm t s
+  form-same = copy-form amount s t w m n (accepts s m n e .has)
 
   yards-same : yards t ≡ yards s
   yards-same = same-yards t s form-same
@@ -78,13 +91,10 @@ module _ (amount : ℕ) (s t : List ℕ) (w : WithFees amount s t) (m n : ℕ) (
   fifth-same : amount ≤ mostFee → question5 s ≡ true → question5 t ≡ true
   unfolding question5 amountWithin
   fifth-same small h =
-      rw (yards-same, same-hauls t s form-same)
-      (and-both
-      (all-from (amountWithin t 0 mostFee) (yards s)
-      (λ i l. rw (zero-add i) (le-leb (recordAt t i .amount) mostFee (rw (w .yard-records i l) small))))
-      (all-cong (hauls s) (amountWithin t (yards s) mostHaul) (amountWithin s (yards s) mostHaul)
-      (λ i l. ap (λ (r : Record). leb (r .amount) mostHaul) (w .other-records (yards s + i) (omega arith) (omega (arith, hauls-are s, yards-le s))))
-      ∙ and-right (allBelow (yards s) (amountWithin s 0 mostFee)) _ h))
+      and-both {a = allBelow (yards t) (amountWithin t 0 mostFee)}
+      (rw yards-same (all-from (amountWithin t 0 mostFee) (yards s)
+      (λ i l. rw (zero-add i) (le-leb (recordAt t i .amount) mostFee (rw (w .yard-records i l) small)))))
+      (copy-within amount s t w m n (accepts s m n e .has) mostHaul ∙ and-right (allBelow (yards s) (amountWithin s 0 mostFee)) _ h)
 
   sixth-same : question6 t ≡ question6 s
   unfolding question6 instanceOf instanceBy
