@@ -5,7 +5,8 @@ fn main() {
     let folder = Path::new(env!("CARGO_MANIFEST_DIR")).join("../../target/staticlib");
     let library = folder.join("libexports.a");
     if !library.exists() {
-        panic!("there is no proved library yet: run `rt staticlib exports` at the top of the repository first");
+        println!("cargo::error=there is no proved library yet: run `rt staticlib exports` at the top of the repository first");
+        return;
     }
     println!("cargo:rustc-link-search=native={}", folder.display());
     println!("cargo:rustc-link-lib=static=exports");

@@ -29,6 +29,16 @@ use Rattle.floor_by.specs.OfferingBy.{offeringBy}
 use Rattle.floor_by.proofs.LimitedByLaws.{under-limited-by}
 use Rattle.cases.proofs.CaseBytes.{yard, haulTo, oneDistance, offer}
 
+-- fee 7 and a distance of 120; the same with a fee of 0; and the sheet of hauls, by the house tariff
+abbrev far : List ℕ
+far = oneDistance 7 0 120
+
+abbrev copy : List ℕ
+copy = oneDistance 0 0 120
+
+abbrev priced : List ℕ
+priced = oneDistance 7 0 4680
+
 -- ---- bytes by a test
 
 smallBytes : List ℕ → Bool
@@ -41,42 +51,42 @@ bytes-from [] h i = omega arith
 bytes-from (x ∷ xs) h zero = ltb-true x 256 (and-left (ltb x 256) _ h)
 bytes-from (x ∷ xs) h (suc i) = bytes-from xs (and-right (ltb x 256) _ h) i
 
-sheet-bytes : Bytes (oneDistance 7 0 120)
+sheet-bytes : Bytes far
 unfolding oneDistance yard haulTo bytesOf smallBytes
-sheet-bytes = bytes-from (oneDistance 7 0 120) refl
+sheet-bytes = bytes-from far refl
 
-copy-bytes : Bytes (oneDistance 0 0 120)
+copy-bytes : Bytes copy
 unfolding oneDistance yard haulTo bytesOf smallBytes
-copy-bytes = bytes-from (oneDistance 0 0 120) refl
+copy-bytes = bytes-from copy refl
 
 no-bytes : Bytes []
 no-bytes i = omega arith
 
 -- ---- the sheet of hauls, and the offer on the copy
 
-hauls-are : sheetBy HouseTariff [] (oneDistance 7 0 120) ≡ accepted (oneDistance 7 0 4680)
+hauls-are : sheetBy HouseTariff [] far ≡ accepted priced
 unfolding oneDistance yard haulTo bytesOf recordAt wellFormed formAndLoads form question1 question2 wellFormedAt question3 numbered noYardAfter question4 haulInPlace farmInPlace question10 haulLoaded farmLoaded amountWithin isYard yards hauls farms loadsByte allBelow leading sum join inside charge haulBy lastEnd pricedRecord pricedAt pricedSheet question13 pricedBy sheetBy
 hauls-are = refl
 
-read-hauls : reading (oneDistance 7 0 4680) ≡ accepted (counts 1 1)
+read-hauls : reading priced ≡ accepted (counts 1 1)
 unfolding oneDistance yard haulTo bytesOf recordAt wellFormed reading formAndLoads form question1 question2 wellFormedAt question3 numbered noYardAfter question4 haulInPlace farmInPlace question10 haulLoaded farmLoaded question5 amountWithin question6 isYard yards hauls farms fee haul loadsByte instanceOf instanceBy allBelow leading metric fourPointBPQ fourPointPQ fourPointQ fourPoint
 read-hauls = refl
 
-accepted-on-copy : offeringBy HouseTariff [] (oneDistance 0 0 120) (offer 0 4680) ≡ accepted 4680
+accepted-on-copy : offeringBy HouseTariff [] copy (offer 0 4680) ≡ accepted 4680
 unfolding oneDistance yard haulTo offer bytesOf recordAt amountAt wellFormed reading formAndLoads form question1 question2 wellFormedAt question3 numbered noYardAfter question4 haulInPlace farmInPlace question10 haulLoaded farmLoaded question5 amountWithin question6 isYard yards hauls farms fee haul loadsByte instanceOf instanceBy allBelow leading sum join metric fourPointBPQ fourPointPQ fourPointQ fourPoint inside charge haulBy lastEnd pricedRecord pricedAt pricedSheet question13 pricedBy sheetBy excessAt withinAt feasible floor isOffer offerInPlace question15 question16 offering offeringBy
 accepted-on-copy = refl
 
-one : yards (oneDistance 7 0 120) ≡ 1
+one : yards far ≡ 1
 unfolding oneDistance yard haulTo bytesOf recordAt isYard yards leading
 one = refl
 
 -- the copy differs in its fee alone
-copied-fee : (i : ℕ) → i < 1 → recordAt (oneDistance 0 0 120) i ≡ recordOf yardKind i 0 0 0
+copied-fee : (i : ℕ) → i < 1 → recordAt copy i ≡ recordOf yardKind i 0 0 0
 unfolding oneDistance yard haulTo bytesOf recordAt
 copied-fee zero l = refl
 copied-fee (suc i) l = absurd (omega arith)
 
-copy-is : WithFees 0 (oneDistance 7 0 120) (oneDistance 0 0 120)
+copy-is : WithFees 0 far copy
 unfolding oneDistance yard haulTo bytesOf
 copy-is =
     record {
@@ -87,17 +97,17 @@ copy-is =
   where
     -- the record behind the fee
     rest : List ℕ
-    rest = drop 8 (oneDistance 7 0 120)
+    rest = drop 8 far
 
-    behind : (i : ℕ) → 1 ≤ i → recordAt (oneDistance 0 0 120) i ≡ recordAt (oneDistance 7 0 120) i
+    behind : (i : ℕ) → 1 ≤ i → recordAt copy i ≡ recordAt far i
     behind i above =
         let e : 1 + (i - 1) ≡ i = omega arith in
-        let same : recordAt (oneDistance 0 0 120) (1 + (i - 1)) ≡ recordAt (oneDistance 7 0 120) (1 + (i - 1)) =
-        record-behind (take 8 (oneDistance 0 0 120)) rest 1 (i - 1) refl ∙ sym (record-behind (take 8 (oneDistance 7 0 120)) rest 1 (i - 1) refl) in
+        let same : recordAt copy (1 + (i - 1)) ≡ recordAt far (1 + (i - 1)) =
+        record-behind (take 8 copy) rest 1 (i - 1) refl ∙ sym (record-behind (take 8 far) rest 1 (i - 1) refl) in
         rw e at same
 
 -- "hauls of any non-empty set of at most k yards", by the house tariff, for k = 1
-pub one-yard-by : (rival : ℕ → Bool) → any (yards (oneDistance 7 0 4680)) rival ≡ true → count (yards (oneDistance 7 0 4680)) rival ≤ 1
-    → 4680 ≤ serviceCost (instanceOf (oneDistance 7 0 4680)) rival
+pub one-yard-by : (rival : ℕ → Bool) → any (yards priced) rival ≡ true → count (yards priced) rival ≤ 1
+    → 4680 ≤ serviceCost (instanceOf priced) rival
 one-yard-by rival some few =
-    omega (arith, under-limited-by 0 (oneDistance 7 0 120) (oneDistance 0 0 120) copy-is sheet-bytes copy-bytes HouseTariff [] no-bytes (oneDistance 7 0 4680) hauls-are 1 1 read-hauls (offer 0 4680) 4680 accepted-on-copy 1 rival some few)
+    omega (arith, under-limited-by 0 far copy copy-is sheet-bytes copy-bytes HouseTariff [] no-bytes priced hauls-are 1 1 read-hauls (offer 0 4680) 4680 accepted-on-copy 1 rival some few)
