@@ -7,7 +7,7 @@ use mathlib.Core.Bool.{Bool, true, _&&_}
 use mathlib.Core.List.{List, [], _∷_}
 use borrow.Author.Tests.{ltb-true}
 use lib.Dec.{ltb}
-use lib.ListN.{getD, take, drop}
+use lib.ListN.{take, drop}
 use Rattle.model.specs.Loops.{allBelow, leading, sum, join}
 use Rattle.model.specs.Least.{any}
 use Rattle.model.specs.Sets.{count}
@@ -29,15 +29,19 @@ use Rattle.floor_by.specs.OfferingBy.{offeringBy}
 use Rattle.floor_by.proofs.LimitedByLaws.{under-limited-by}
 use Rattle.cases.proofs.CaseBytes.{yard, haulTo, oneDistance, offer}
 
--- fee 7 and a distance of 120; the same with a fee of 0; and the sheet of hauls, by the house tariff
+-- fee 7 and a distance of 120; the same with a fee of 0; and the sheet of hauls
 abbrev far : List ℕ
 far = oneDistance 7 0 120
 
 abbrev copy : List ℕ
 copy = oneDistance 0 0 120
 
+-- what the house tariff charges for the distance
+abbrev charged : ℕ
+charged = 4680
+
 abbrev priced : List ℕ
-priced = oneDistance 7 0 4680
+priced = oneDistance 7 0 charged
 
 -- ---- bytes by a test
 
@@ -72,7 +76,7 @@ read-hauls : reading priced ≡ accepted (counts 1 1)
 unfolding oneDistance yard haulTo bytesOf recordAt wellFormed reading formAndLoads form question1 question2 wellFormedAt question3 numbered noYardAfter question4 haulInPlace farmInPlace question10 haulLoaded farmLoaded question5 amountWithin question6 isYard yards hauls farms fee haul loadsByte instanceOf instanceBy allBelow leading metric fourPointBPQ fourPointPQ fourPointQ fourPoint
 read-hauls = refl
 
-accepted-on-copy : offeringBy HouseTariff [] copy (offer 0 4680) ≡ accepted 4680
+accepted-on-copy : offeringBy HouseTariff [] copy (offer 0 charged) ≡ accepted charged
 unfolding oneDistance yard haulTo offer bytesOf recordAt amountAt wellFormed reading formAndLoads form question1 question2 wellFormedAt question3 numbered noYardAfter question4 haulInPlace farmInPlace question10 haulLoaded farmLoaded question5 amountWithin question6 isYard yards hauls farms fee haul loadsByte instanceOf instanceBy allBelow leading sum join metric fourPointBPQ fourPointPQ fourPointQ fourPoint inside charge haulBy lastEnd pricedRecord pricedAt pricedSheet question13 pricedBy sheetBy excessAt withinAt feasible floor isOffer offerInPlace question15 question16 offering offeringBy
 accepted-on-copy = refl
 
@@ -108,6 +112,6 @@ copy-is =
 
 -- "hauls of any non-empty set of at most k yards", by the house tariff, for k = 1
 pub one-yard-by : (rival : ℕ → Bool) → any (yards priced) rival ≡ true → count (yards priced) rival ≤ 1
-    → 4680 ≤ serviceCost (instanceOf priced) rival
+    → charged ≤ serviceCost (instanceOf priced) rival
 one-yard-by rival some few =
-    omega (arith, under-limited-by 0 far copy copy-is sheet-bytes copy-bytes HouseTariff [] no-bytes priced hauls-are 1 1 read-hauls (offer 0 4680) 4680 accepted-on-copy 1 rival some few)
+    omega (arith, under-limited-by 0 far copy copy-is sheet-bytes copy-bytes HouseTariff [] no-bytes priced hauls-are 1 1 read-hauls (offer 0 charged) charged accepted-on-copy 1 rival some few)

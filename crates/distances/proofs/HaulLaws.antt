@@ -103,27 +103,28 @@ module _ (b : Bands) (allowed : Allowed b) (s : List ℕ) (bytes : Bytes s) (m n
 
 -- an accepted sheet of distances has the form, no distance of it is past the reach, and the sheet of hauls is the priced one
 pub priced-is : (b : Bands) (s h : List ℕ) → underTariff b s ≡ accepted h
-    → (c : Counts) × HasForm s (c .yards) (c .farms) × (question13 (lastEnd b) s ≡ true) × (pricedSheet (haulBy b) s ≡ h)
+    → (c : Counts) × (formAndLoads s ≡ accepted c) × HasForm s (c .yards) (c .farms) × (question13 (lastEnd b) s ≡ true)
+    × (pricedSheet (haulBy b) s ≡ h)
 unfolding pricedBy
 priced-is b s h accepts =
     let formed = passed-first (formAndLoads s) (λ c. ask (question13 (lastEnd b) s) 13 (accepted (pricedSheet (haulBy b) s))) h accepts in
     let c = formed .0 in
     let near = asked (question13 (lastEnd b) s) 13 (accepted (pricedSheet (haulBy b) s)) h (formed .2) in
-    (c, has-form s (c .yards) (c .farms) (loaded s (c .yards) (c .farms) (formed .1) .0), near .0, same-result (near .1))
+    (c, formed .1, has-form s (c .yards) (c .farms) (loaded s (c .yards) (c .farms) (formed .1) .0), near .0, same-result (near .1))
 
 pub priced-hauls : (b : Bands) → Allowed b → (s h : List ℕ) → Bytes s → underTariff b s ≡ accepted h → (c : Counts) × HaulsOf b s h (c .yards) (c .farms)
 priced-hauls b allowed s h bytes accepts =
     let p = priced-is b s h accepts in
     let c = p .0 in (
       c,
-      subst (λ (x : List ℕ). HaulsOf b s x (c .yards) (c .farms)) (p .3)
+      subst (λ (x : List ℕ). HaulsOf b s x (c .yards) (c .farms)) (p .4)
           (record {
-            distances-form = p .1;
-            within-reach = reach-is b allowed s bytes (c .yards) (c .farms) (p .1) (p .2);
-            hauls-charged = haul-is b allowed s bytes (c .yards) (c .farms) (p .1);
-            fees-kept = fee-is b allowed s bytes (c .yards) (c .farms) (p .1);
-            loads-kept = loads-is b allowed s bytes (c .yards) (c .farms) (p .1);
-            metric-kept = hauls-metric b allowed s bytes (c .yards) (c .farms) (p .1);
+            distances-form = p .2;
+            within-reach = reach-is b allowed s bytes (c .yards) (c .farms) (p .2) (p .3);
+            hauls-charged = haul-is b allowed s bytes (c .yards) (c .farms) (p .2);
+            fees-kept = fee-is b allowed s bytes (c .yards) (c .farms) (p .2);
+            loads-kept = loads-is b allowed s bytes (c .yards) (c .farms) (p .2);
+            metric-kept = hauls-metric b allowed s bytes (c .yards) (c .farms) (p .2);
           }),
     )
 

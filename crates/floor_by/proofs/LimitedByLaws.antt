@@ -1,6 +1,6 @@
 -- A floor under limited lists by a tariff. Of two sheets of distances that differ in their fees alone the sheets of hauls differ so too, since fees are not
 -- priced: what is accepted on the copy is under k times the fee and the hauls, by the tariff, of at most k yards.
-use Prim.Native.Nat.{ℕ, _+_, _*_, _/_, _≤_, _<_}
+use Prim.Native.Nat.{ℕ, _+_, _*_, _/_, _≤_}
 use native.Mathlib.Omega.{arith}
 use mathlib.Core.Path.{_≡_, refl, sym, ap, subst, _∙_}
 use mathlib.Core.Bool.{Bool, true}
@@ -8,13 +8,13 @@ use mathlib.Core.List.{List}
 use Rattle.model.specs.Least.{any}
 use Rattle.model.specs.Sets.{count}
 use Rattle.model.specs.Instance.{serviceCost}
-use Rattle.model.specs.Answers.{accepted, ask, after}
+use Rattle.model.specs.Answers.{accepted, after}
 use Rattle.model.proofs.AnswerLaws.{same-result, passed-first}
 use Rattle.record.specs.Records.{recordOf}
 use Rattle.record.proofs.RecordLaws.{Bytes}
 use Rattle.questions.specs.Bounds.{yardKind, mostFee}
 use Rattle.questions.specs.Sheet.{yards, instanceOf}
-use Rattle.questions.specs.Reading.{counts, formAndLoads, reading}
+use Rattle.questions.specs.Reading.{counts, reading}
 use Rattle.questions.proofs.FormLaws.{yards-le}
 use Rattle.questions.proofs.AcceptedLaws.{HasForm}
 use Rattle.questions.proofs.SameFormLaws.{same-form-and-loads}
@@ -28,7 +28,7 @@ use Rattle.tariff.proofs.HouseLaws.{house-allowed}
 use Rattle.distances.specs.Priced.{pricedRecord, pricedSheet, question13, pricedBy, underTariff, underGiven, sheetBy, readingBy}
 use Rattle.distances.proofs.PricedLaws.{priced-other, sheet-length}
 use Rattle.distances.proofs.HaulLaws.{record-is, yards-kept, priced-is}
-use Rattle.floor.specs.Offering.{offering, WithFees}
+use Rattle.floor.specs.Offering.{WithFees}
 use Rattle.floor.proofs.LimitedLaws.{copy-form, copy-within, copy-read, under-limited}
 use Rattle.floor_by.specs.OfferingBy.{offeringBy}
 use Rattle.floor_by.proofs.OfferingByLaws.{floor-on-hauls}
@@ -57,9 +57,9 @@ module _ (amount : ℕ) (s t : List ℕ) (w : WithFees amount s t) (bytes : Byte
     under-with-fees h g of-s of-t =
         let p = priced-is b s h of-s in
         let q = priced-is b t g of-t in
-        subst (λ (x : List ℕ). WithFees amount x g) (p .3)
-        (subst (λ (y : List ℕ). WithFees amount (pricedSheet (haulBy b) s) y) (q .3)
-        (priced-with-fees (p .0 .yards) (p .0 .farms) (p .1) (q .0 .yards) (q .0 .farms) (q .1)))
+        subst (λ (x : List ℕ). WithFees amount x g) (p .4)
+        (subst (λ (y : List ℕ). WithFees amount (pricedSheet (haulBy b) s) y) (q .4)
+        (priced-with-fees (p .0 .yards) (p .0 .farms) (p .2) (q .0 .yards) (q .0 .farms) (q .2)))
 
   pub with-fees-by : (choice : TariffChoice) (tariff : List ℕ) → Bytes tariff → (h g : List ℕ)
       → sheetBy choice tariff s ≡ accepted h → sheetBy choice tariff t ≡ accepted g → WithFees amount h g
@@ -79,11 +79,10 @@ module _ (amount : ℕ) (s t : List ℕ) (w : WithFees amount s t) (bytes : Byte
   copy-priced : (b : Bands) (h : List ℕ) → underTariff b s ≡ accepted h → underTariff b t ≡ accepted (pricedSheet (haulBy b) t)
   unfolding pricedBy question13
   copy-priced b h of-s =
-      let priced = passed-first (formAndLoads s) (λ c. ask (question13 (lastEnd b) s) 13 (accepted (pricedSheet (haulBy b) s))) h of-s in
       let p = priced-is b s h of-s in
       let m = p .0 .yards in
       let n = p .0 .farms in
-      rw (same-form-and-loads t s (copy-form amount s t w m n (p .1)), priced .1, copy-within amount s t w m n (p .1) (lastEnd b), p .2)
+      rw (same-form-and-loads t s (copy-form amount s t w m n (p .2)), p .1, copy-within amount s t w m n (p .2) (lastEnd b), p .3)
 
   copy-by : (choice : TariffChoice) (tariff h : List ℕ) → sheetBy choice tariff s ≡ accepted h → (g : List ℕ) × (sheetBy choice tariff t ≡ accepted g)
   unfolding sheetBy underGiven
