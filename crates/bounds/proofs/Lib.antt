@@ -7,4 +7,3 @@ pub mod Theorems
 pub mod Lists
 pub mod Example
 pub mod Searches
-pub mod SettledSearches

@@ -1,15 +1,16 @@
 // The two plans by a tariff (document 02, paper 3): those of the sheet of hauls that it makes of a sheet of distances.
 //
-// Both are searches of `searches` without a limit on moves. Every call is total: it takes any bytes as the sheet and as the tariff. The tariff's bytes count
-// for a given one alone. What is promised is promised of the sheet of hauls, by which the rival's prices go too.
+// Every call is total: it takes any bytes as the sheet and as the tariff. The tariff's bytes count for a given one alone. What is promised is promised
+// of the sheet of hauls, by which the rival's prices go too.
 ghost use Rattle.std.specs.Prelude.{◌≡◌, length};
 ghost use Rattle.distances.specs.Priced.{sheet_by, OnHauls};
 ghost use Rattle.price.specs.Pricing.{planned_answer, answer, area_after};
 ghost use Rattle.search.specs.Promises.{OpenPlanSettled, OpenPlanBounded, LimitedPlanSized, LimitedPlanSettled, LimitedPlanBounded};
 ghost use Rattle.by_tariff.specs.PlanningBy.{open_planning_by, limited_planning_by};
 
-use engine::NO_LIMIT;
+use distances::HaulSheet;
 use price::Planned;
+use sheet::MOST_BYTES;
 use tariff::TariffChoice;
 
 // Writes the open plan to the front of the area. A refused call leaves the area as it was.
@@ -19,8 +20,12 @@ pub fn open_plan_by(sheet: &[u8], choice: TariffChoice, tariff: &[u8], area: &mu
     ensures settled { OnHauls (sheet_by choice tariff.now sheet.now) (λ h. OpenPlanSettled h result area.new) }
     ensures bounded { OnHauls (sheet_by choice tariff.now sheet.now) (λ h. OpenPlanBounded h result area.new) }
 {
-    let searched = searches::open_search(sheet, choice, tariff, NO_LIMIT, area);
-    search::written(searched)
+    let mut hauls = [0u8; MOST_BYTES];
+    match distances::hauls_by(sheet, choice, tariff, &mut hauls) {
+        HaulSheet::AsWritten => search::open_plan(sheet, area),
+        HaulSheet::Priced(bytes) => search::open_plan(&hauls[..bytes], area),
+        HaulSheet::Refused(number) => Planned::Refused(number),
+    }
 }
 
 // The same of the limited plan for k yards.
@@ -37,6 +42,10 @@ pub fn limited_plan_by(
     ensures settled { OnHauls (sheet_by choice tariff.now sheet.now) (λ h. LimitedPlanSettled h result area.new) }
     ensures bounded { OnHauls (sheet_by choice tariff.now sheet.now) (λ h. LimitedPlanBounded h k result area.new) }
 {
-    let searched = searches::limited_search(sheet, choice, tariff, k, NO_LIMIT, area);
-    search::written(searched)
+    let mut hauls = [0u8; MOST_BYTES];
+    match distances::hauls_by(sheet, choice, tariff, &mut hauls) {
+        HaulSheet::AsWritten => search::limited_plan(sheet, k, area),
+        HaulSheet::Priced(bytes) => search::limited_plan(&hauls[..bytes], k, area),
+        HaulSheet::Refused(number) => Planned::Refused(number),
+    }
 }

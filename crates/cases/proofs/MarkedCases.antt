@@ -12,7 +12,6 @@ use Rattle.model.specs.Closing.{second, second_cost, cost_at, cost_elsewhere, cl
 use Rattle.model.specs.Floor.{excess_at, within_at, feasible, floor}
 use Rattle.model.specs.Neighbours.{add_at, adds, drop_at, drops, swap_at, swaps_out, swaps, add_drop_swap}
 use Rattle.model.specs.Search.{better, best, next, descend, search}
-use Rattle.model.specs.Limit.{outcome, search_within}
 use Rattle.model.specs.Plans.{open_cost, open_start, open_search, limited_cost, limited_start, limited_search}
 use Rattle.record.specs.Records.{record_at, amount_at, bytes_of}
 use Rattle.model.specs.Answers.{Answer, accepted, refused}
@@ -36,15 +35,7 @@ use Rattle.shut_by.specs.ShuttingBy.{seconding_by, shutting_by}
 use Rattle.floor.specs.Offering.{is_offer, offer_in_place, question15, question16, offering}
 use Rattle.floor_by.specs.OfferingBy.{offering_by}
 use Rattle.search.specs.SearchEnds.{settled_at, open_end, limited_end, plan_of}
-use Rattle.starts.specs.Starts.{start_by, question7, ask_start}
-use Rattle.plan_search.specs.Kinds.{cost_by_lem, moves_by, total_by, outcome_by}
-use Rattle.plan_search.specs.Planning.{SearchPlan, search_plan, search_planning}
-use Rattle.plan_search.specs.declared.PlanKind.{PlanKind}
-use Rattle.plan_search.specs.declared.PlanKind.TheVariants.{Open, Limited}
-use Rattle.starts.specs.declared.PlanStart.{PlanStart}
-use Rattle.starts.specs.declared.PlanStart.TheVariants as start
-use Rattle.searches.specs.SearchingBy.{search_planning_by}
-use Rattle.search.specs.Planning.{open_plan, limited_plan, open_planning, limited_planning}
+use Rattle.search.specs.Planning.{open_plan, limited_plan, question7, open_planning, limited_planning}
 use Rattle.by_tariff.specs.PlanningBy.{open_planning_by, limited_planning_by}
 use Rattle.cases.proofs.CaseBytes.{yard, haul_to, two_yards, equal_hauls, with_fees, loaded, sheet_s, one_distance, offer, offered, second_is, two_bands, highest, opened, brings, served, ends}
 
@@ -65,7 +56,6 @@ pub data Call : Type 0 where
   shuts_by : TariffChoice → List ℕ → List ℕ → ℕ → ℕ → Call
   asks_floor : List ℕ → List ℕ → Call
   asks_floor_by : TariffChoice → List ℕ → List ℕ → List ℕ → Call
-  searches : PlanKind → PlanStart → ℕ → TariffChoice → List ℕ → List ℕ → Call
 
 pub data Given : Type 0 where
   read_answer : Answer Counts → Given
@@ -73,7 +63,6 @@ pub data Given : Type 0 where
   second_answer : Answer Nearest → Given
   change_answer : Answer ℤ → Given
   floor_answer : Answer ℕ → Given
-  search_answer : Answer SearchPlan → Given
 
 -- an area of 64 bytes holds every plan of S
 room : ℕ
@@ -94,7 +83,6 @@ given (asks_second_by choice tariff s set farm) = second_answer (seconding_by ch
 given (shuts_by choice tariff s set yard) = change_answer (shutting_by choice tariff s set yard)
 given (asks_floor s offers) = floor_answer (offering s offers)
 given (asks_floor_by choice tariff s offers) = floor_answer (offering_by choice tariff s offers)
-given (searches kind start limit choice tariff s) = search_answer (search_planning_by kind start limit choice tariff s room)
 
 -- ---- the answers of the calls that write a plan
 
@@ -103,14 +91,6 @@ gives bytes moves = plan_answer (accepted record { bytes = bytes; moves = moves 
 
 refuses : ℕ → Given
 refuses k = plan_answer (refused k)
-
--- and of those that search, stopped at a set or settled on it
-
-stops : ℕ → List ℕ → ℕ → Given
-stops set bytes moves = search_answer (accepted record { stopped = true; set = set; plan = record { bytes = bytes; moves = moves } })
-
-settles : ℕ → List ℕ → ℕ → Given
-settles set bytes moves = search_answer (accepted record { stopped = false; set = set; plan = record { bytes = bytes; moves = moves } })
 
 -- ---- the table
 
@@ -251,28 +231,6 @@ table =
     ∷ case (asks_floor_by NoTariff [] (one_distance 7 0 120) (offer 0 127)) (floor_answer (accepted 127))
     ∷ case (asks_floor_by NoTariff [] (one_distance 7 0 120) (offer 0 4687)) (floor_answer (refused 16))
     ∷ case (asks_floor_by GivenTariff (two_bands 40 100 41) [] []) (floor_answer (refused 12))
-    -- paper 7, the open search of S from {1} with 0 moves, with 1, and with 2, the last of which settles it; with 3
-    ∷ case (searches Open start.Cheapest 0 NoTariff [] sheet_s) (stops 2 (opened 1 4 ++ served 0 1 3 ++ served 1 1 1 ++ served 2 1 5 ++ ends 1 3 13 0) 0)
-    ∷ case (searches Open start.Cheapest 1 NoTariff [] sheet_s)
-    (stops 6 (opened 1 4 ++ opened 2 2 ++ served 0 1 3 ++ served 1 1 1 ++ served 2 2 1 ++ ends 2 3 11 1) 1)
-    ∷ case (searches Open start.Cheapest 2 NoTariff [] sheet_s)
-    (settles 7 (opened 0 1 ++ opened 1 4 ++ opened 2 2 ++ served 0 0 1 ++ served 1 1 1 ++ served 2 2 1 ++ ends 3 3 10 2) 2)
-    ∷ case (searches Open start.Cheapest 3 NoTariff [] sheet_s)
-    (settles 7 (opened 0 1 ++ opened 1 4 ++ opened 2 2 ++ served 0 0 1 ++ served 1 1 1 ++ served 2 2 1 ++ ends 3 3 10 2) 2)
-    -- from {1, 2}, where it was stopped: the same plan but for the moves; from {0, 2}, which no move lowers
-    ∷ case (searches Open (start.Given 6) 4294967295 NoTariff [] sheet_s)
-    (settles 7 (opened 0 1 ++ opened 1 4 ++ opened 2 2 ++ served 0 0 1 ++ served 1 1 1 ++ served 2 2 1 ++ ends 3 3 10 1) 1)
-    ∷ case (searches Open (start.Given 5) 0 NoTariff [] sheet_s)
-    (settles 5 (opened 0 1 ++ opened 2 2 ++ served 0 0 1 ++ served 1 0 5 ++ served 2 2 1 ++ ends 2 3 10 0) 0)
-    -- the limited search from {0} with no move, and from {2} with one; a given set is asked 8 and not 7
-    ∷ case (searches Limited (start.First 1) 0 NoTariff [] sheet_s) (stops 1 (opened 0 1 ++ served 0 0 1 ++ served 1 0 5 ++ served 2 0 9 ++ ends 1 3 15 0) 0)
-    ∷ case (searches Limited (start.Given 4) 1 NoTariff [] sheet_s) (settles 2 (opened 1 4 ++ served 0 1 3 ++ served 1 1 1 ++ served 2 1 5 ++ ends 1 3 9 1) 1)
-    ∷ case (searches Limited (start.First 4) 9 NoTariff [] sheet_s) (search_answer (refused 7))
-    ∷ case (searches Limited (start.Given 0) 9 NoTariff [] sheet_s) (search_answer (refused 8))
-    ∷ case (searches Open (start.Given 8) 9 NoTariff [] sheet_s) (search_answer (refused 8))
-    -- by the house tariff, and by a refused one
-    ∷ case (searches Open start.Cheapest 0 HouseTariff [] (one_distance 7 2 120)) (settles 1 (opened 0 7 ++ brings 0 0 2 4680 ++ ends 1 1 9367 0) 0)
-    ∷ case (searches Open (start.Given 0) 0 GivenTariff (two_bands 40 100 41) []) (search_answer (refused 12))
     ∷ []
 
 pub expected : List Case → List Given
@@ -284,5 +242,5 @@ computed [] = []
 computed (c ∷ cs) = given c.call ∷ computed cs
 
 pub marked_cases : computed table ≡ expected table
-unfolding table case stops settles search_within outcome start_by ask_start cost_by_lem moves_by total_by outcome_by search_plan search_planning search_planning_by band_bytes two_bands highest one_distance gives refuses ends served brings opened given room offer offered second_is sheet_s loaded with_fees two_yards equal_hauls haul_to yard expected computed bytes_of record_at well_formed reading form_and_loads form question1 question2 well_formed_at question3 numbered no_yard_after question4 haul_in_place farm_in_place question10 haul_loaded farm_loaded question5 amount_within question6 is_yard yards hauls farms fee haul loads_byte instance_of instance_by all_below leading sum join any least arg member with without metric four_point_bpq four_point_pq four_point_q four_point nearest at_nearest assigned opening_cost service_cost total_cost add_at adds drop_at drops swap_at swaps_out swaps add_drop_swap better best next descend search open_cost open_start open_search limited_cost limited_start limited_search open_record farm_record total_record moves_record plan_bytes question9 question8 pricing open_end limited_end settled_at plan_of open_plan limited_plan question7 open_planning limited_planning inside charge haul_by last_end band_of band_at tariff_length in_place band_in_place question11 no_rise question12 bands_of tariff_reading priced_record priced_at priced_sheet question13 priced_by under_given sheet_by reading_by pricing_by open_planning_by limited_planning_by second second_cost cost_at cost_elsewhere closing_change second_of seconding question14 shutting seconding_by shutting_by amount_at excess_at within_at feasible floor is_offer offer_in_place question15 question16 offering offering_by
+unfolding table case band_bytes two_bands highest one_distance gives refuses ends served brings opened given room offer offered second_is sheet_s loaded with_fees two_yards equal_hauls haul_to yard expected computed bytes_of record_at well_formed reading form_and_loads form question1 question2 well_formed_at question3 numbered no_yard_after question4 haul_in_place farm_in_place question10 haul_loaded farm_loaded question5 amount_within question6 is_yard yards hauls farms fee haul loads_byte instance_of instance_by all_below leading sum join any least arg member with without metric four_point_bpq four_point_pq four_point_q four_point nearest at_nearest assigned opening_cost service_cost total_cost add_at adds drop_at drops swap_at swaps_out swaps add_drop_swap better best next descend search open_cost open_start open_search limited_cost limited_start limited_search open_record farm_record total_record moves_record plan_bytes question9 question8 pricing open_end limited_end settled_at plan_of open_plan limited_plan question7 open_planning limited_planning inside charge haul_by last_end band_of band_at tariff_length in_place band_in_place question11 no_rise question12 bands_of tariff_reading priced_record priced_at priced_sheet question13 priced_by under_given sheet_by reading_by pricing_by open_planning_by limited_planning_by second second_cost cost_at cost_elsewhere closing_change second_of seconding question14 shutting seconding_by shutting_by amount_at excess_at within_at feasible floor is_offer offer_in_place question15 question16 offering offering_by
 marked_cases = refl

@@ -34,8 +34,3 @@ module _ {A : Type 0} (Keeps : Answer A → Type 0) (numbered : (k : ℕ) → 1 
       go : (a : Answer (List ℕ)) → sheet_by choice tariff s ≡ a → Keeps (after a call)
       go (accepted h) e = within h
       go (refused k) e = let l = sheet_numbered choice tariff s k e in numbered k l.0 (omega (arith, l.1))
-
--- of any answer: its refusal number is one of eight bits, and not 0
-abbrev pub Numbered : {A : Type 0} → Answer A → Type 0
-Numbered (accepted x) = Unit {0}
-Numbered (refused k) = (1 ≤ k) × (k < 2 ^ 8)

@@ -1,11 +1,12 @@
 // The calls of the planner for Rust and C, as `include/planner.h` declares them.
 //
-// Each hands its arguments on to the call of its name in the crates below and gives the answer as one number, by `numbers` or a crate beside it: bits 0 to 7 the
-// refusal number, 0 where the call is accepted, and above them what the call returns. A refused call gives its number alone. Every call is total.
+// Each hands its arguments on to `sheet`, `stretch`, `price` or `search` or, by a tariff, to `distances`, `price_by`, `shut_by`, `floor_by` or `by_tariff`, and gives
+// the answer as one number by `numbers`: bits 0 to 7 the refusal number, 0 where the call is accepted, and above them what the call returns. A refused call gives its
+// number alone. Every call is total.
 //
-// A call that takes `hauls` is told what the amounts of haul records are: 0 for hauls as written, 1 for distances by the house tariff, and any other number for
-// distances by the tariff that is handed over, whose bytes count only then.
-ghost use Rattle.std.specs.Prelude.{◌≡◌, length, get_or, min};
+// A call whose name ends in `by`, `second`, `shut` or `floor` is told what the amounts of haul records are: `hauls` is 0 for hauls as written, 1 for distances by the house
+// tariff, and any other number for distances by the tariff that is handed over, whose bytes count only then.
+ghost use Rattle.std.specs.Prelude.{◌≡◌, length, get_or};
 ghost use Rattle.questions.specs.Reading.{reading};
 ghost use Rattle.stretch.specs.Stretch.{farm_hauls, farm_from, HaulsFrom};
 ghost use Rattle.distances.specs.Priced.{sheet_by, reading_by, OnHauls};
@@ -16,15 +17,6 @@ ghost use Rattle.floor_by.specs.OfferingBy.{offering_by};
 ghost use Rattle.search.specs.Planning.{open_planning, limited_planning};
 ghost use Rattle.by_tariff.specs.PlanningBy.{open_planning_by, limited_planning_by};
 ghost use Rattle.search.specs.Promises.{NoOpenMove, BoundedByRivals, OfSize, NoLimitedMove, BoundedByRivalsOf};
-ghost use Rattle.model.specs.Sets.{count, member};
-ghost use Rattle.questions.specs.Sheet.{yards};
-ghost use Rattle.plan_area.specs.Plan.{plan_set};
-ghost use Rattle.plan_search.specs.declared.PlanKind.TheVariants.{Open, Limited};
-ghost use Rattle.starts.specs.declared.PlanStart.TheVariants.{Cheapest, First, Given};
-ghost use Rattle.plan_search.specs.Planning.{search_answer, plan_left};
-ghost use Rattle.searches.specs.SearchingBy.{search_planning_by};
-ghost use Rattle.searches.specs.Promises.{NoMoveBy, NoDearerThanStart};
-ghost use Rattle.search_numbers.specs.SearchNumbers.{searched_number, WhereSettled, WhereSearched};
 ghost use Rattle.numbers.specs.Numbers.{counts_number, result_number, second_number, change_number, sum_number, choice_of, OfWritten, DifferenceTold, UnderAllTold};
 
 // Asks questions 1 to 4, 10, 5 and 6. Bits 8 to 15: the yards; bits 16 to 23: the farms.
@@ -62,7 +54,7 @@ pub extern "C" fn planner_farm_byte(sheet: &[u8], farm: usize, at: usize) -> u8
 }
 
 // Prices a set of yards, of which bit i marks yard i, and writes its plan to the front of the area.
-// Bits 8 to 30: the bytes written; bits 32 to 63: the moves.
+// Bits 8 to 31: the bytes written; bits 32 to 63: the moves.
 #[unsafe(no_mangle)]
 pub extern "C" fn planner_price(sheet: &[u8], set: u32, area: &mut [u8]) -> u64
     ensures answer { result ≡ result_number (answer (pricing sheet.now set (length area.old))) }
@@ -201,115 +193,4 @@ pub extern "C" fn planner_floor(sheet: &[u8], hauls: u8, tariff: &[u8], offers: 
 {
     let bound = floor_by::floor_by(sheet, numbers::choice_of(hauls), tariff, offers);
     numbers::sum_number(bound)
-}
-
-// The open search with at most `limit` moves, from the single yard of least full cost. Bits 8 to 30: the bytes written; bit 31: whether the search was stopped;
-// bits 32 to 63: the moves. What is promised is promised of the sheet of hauls.
-#[unsafe(no_mangle)]
-pub extern "C" fn planner_open_search(
-    sheet: &[u8],
-    hauls: u8,
-    tariff: &[u8],
-    limit: u64,
-    area: &mut [u8],
-) -> u64
-    ensures answer { result ≡ searched_number (search_answer (search_planning_by Open Cheapest limit (choice_of hauls) tariff.now sheet.now (length area.old))) }
-    ensures area { area.new ≡ area_after (plan_left (search_planning_by Open Cheapest limit (choice_of hauls) tariff.now sheet.now (length area.old))) area.old }
-    ensures settled { OnHauls (sheet_by (choice_of hauls) tariff.now sheet.now) (λ h. WhereSettled result area.new (NoMoveBy Open h)) }
-    ensures bounded { OnHauls (sheet_by (choice_of hauls) tariff.now sheet.now) (λ h. WhereSettled result area.new (BoundedByRivals h)) }
-    ensures not_dearer { OnHauls (sheet_by (choice_of hauls) tariff.now sheet.now) (λ h. WhereSearched result area.new (NoDearerThanStart Open Cheapest h)) }
-{
-    let searched = searches::open_search(sheet, numbers::choice_of(hauls), tariff, limit, area);
-    search_numbers::searched_number(searched)
-}
-
-// The open search from a given set of yards; the number as for `planner_open_search`.
-#[unsafe(no_mangle)]
-pub extern "C" fn planner_open_search_from(
-    sheet: &[u8],
-    hauls: u8,
-    tariff: &[u8],
-    start: u32,
-    limit: u64,
-    area: &mut [u8],
-) -> u64
-    ensures answer { result ≡ searched_number (search_answer (search_planning_by Open (Given start) limit (choice_of hauls) tariff.now sheet.now (length area.old))) }
-    ensures area { area.new ≡ area_after (plan_left (search_planning_by Open (Given start) limit (choice_of hauls) tariff.now sheet.now (length area.old))) area.old }
-    ensures settled { OnHauls (sheet_by (choice_of hauls) tariff.now sheet.now) (λ h. WhereSettled result area.new (NoMoveBy Open h)) }
-    ensures bounded { OnHauls (sheet_by (choice_of hauls) tariff.now sheet.now) (λ h. WhereSettled result area.new (BoundedByRivals h)) }
-    ensures not_dearer { OnHauls (sheet_by (choice_of hauls) tariff.now sheet.now) (λ h. WhereSearched result area.new (NoDearerThanStart Open (Given start) h)) }
-{
-    let searched = searches::open_search_from(
-        sheet,
-        numbers::choice_of(hauls),
-        tariff,
-        start,
-        limit,
-        area,
-    );
-    search_numbers::searched_number(searched)
-}
-
-// The limited search with at most `limit` moves, from yards 0 to k - 1; the number as for `planner_open_search`.
-#[unsafe(no_mangle)]
-pub extern "C" fn planner_limited_search(
-    sheet: &[u8],
-    hauls: u8,
-    tariff: &[u8],
-    k: usize,
-    limit: u64,
-    area: &mut [u8],
-) -> u64
-    ensures answer { result ≡ searched_number (search_answer (search_planning_by Limited (First k) limit (choice_of hauls) tariff.now sheet.now (length area.old))) }
-    ensures area { area.new ≡ area_after (plan_left (search_planning_by Limited (First k) limit (choice_of hauls) tariff.now sheet.now (length area.old))) area.old }
-    ensures sized { OnHauls (sheet_by (choice_of hauls) tariff.now sheet.now) (λ h. WhereSearched result area.new (OfSize h k)) }
-    ensures settled { OnHauls (sheet_by (choice_of hauls) tariff.now sheet.now) (λ h. WhereSettled result area.new (NoMoveBy Limited h)) }
-    ensures bounded { OnHauls (sheet_by (choice_of hauls) tariff.now sheet.now) (λ h. WhereSettled result area.new (BoundedByRivalsOf h k)) }
-    ensures not_dearer { OnHauls (sheet_by (choice_of hauls) tariff.now sheet.now) (λ h. WhereSearched result area.new (NoDearerThanStart Limited (First k) h)) }
-{
-    let searched = searches::limited_search(
-        sheet,
-        numbers::choice_of(hauls),
-        tariff,
-        k,
-        limit,
-        area,
-    );
-    search_numbers::searched_number(searched)
-}
-
-// The limited search from a given set of yards, whose count it keeps; the number as for `planner_open_search`.
-#[unsafe(no_mangle)]
-pub extern "C" fn planner_limited_search_from(
-    sheet: &[u8],
-    hauls: u8,
-    tariff: &[u8],
-    start: u32,
-    limit: u64,
-    area: &mut [u8],
-) -> u64
-    ensures answer { result ≡ searched_number (search_answer (search_planning_by Limited (Given start) limit (choice_of hauls) tariff.now sheet.now (length area.old))) }
-    ensures area { area.new ≡ area_after (plan_left (search_planning_by Limited (Given start) limit (choice_of hauls) tariff.now sheet.now (length area.old))) area.old }
-    ensures sized { OnHauls (sheet_by (choice_of hauls) tariff.now sheet.now) (λ h. WhereSearched result area.new (OfSize h (count (yards h) (member start)))) }
-    ensures settled { OnHauls (sheet_by (choice_of hauls) tariff.now sheet.now) (λ h. WhereSettled result area.new (NoMoveBy Limited h)) }
-    ensures bounded { OnHauls (sheet_by (choice_of hauls) tariff.now sheet.now) (λ h. WhereSettled result area.new (BoundedByRivalsOf h (count (yards h) (member start)))) }
-    ensures not_dearer { OnHauls (sheet_by (choice_of hauls) tariff.now sheet.now) (λ h. WhereSearched result area.new (NoDearerThanStart Limited (Given start) h)) }
-{
-    let searched = searches::limited_search_from(
-        sheet,
-        numbers::choice_of(hauls),
-        tariff,
-        start,
-        limit,
-        area,
-    );
-    search_numbers::searched_number(searched)
-}
-
-// The set of the yards in the records of kind 4F among the first so many bytes of the area, or among all where it has fewer. It refuses nothing.
-#[unsafe(no_mangle)]
-pub extern "C" fn planner_plan_set(area: &[u8], bytes: usize) -> u32
-    ensures { result ≡ plan_set area.now (min bytes (length area.now)) }
-{
-    plan_set::plan_set(area, bytes)
 }

@@ -20,7 +20,7 @@ counts_number (refused k) = k
 
 -- Pricing and the plans: from bit 8 the bytes written, from bit 32 the moves. A refused call gives its number alone.
 abbrev pub result_number : Answer Result → ℕ
-result_number (accepted r) = r.bytes % 2 ^ 23 * 2 ^ 8 + r.moves * 2 ^ 32
+result_number (accepted r) = r.bytes % 2 ^ 24 * 2 ^ 8 + r.moves * 2 ^ 32
 result_number (refused k) = k
 
 -- A farm's second yard: bit 8 whether there is one, from bit 16 that yard, from bit 32 the haul there.
@@ -60,9 +60,9 @@ yards_read r = r / 2 ^ 8 % 2 ^ 8
 unfoldable pub farms_read : ℕ → ℕ
 farms_read r = r / 2 ^ 16 % 2 ^ 8
 
--- bits 8 to 30 and 32 to 63 of what pricing and the plans give
+-- bits 8 to 31 and 32 to 63 of what pricing and the plans give
 unfoldable pub bytes_written : ℕ → ℕ
-bytes_written r = r / 2 ^ 8 % 2 ^ 23
+bytes_written r = r / 2 ^ 8 % 2 ^ 24
 
 unfoldable pub moves_made : ℕ → ℕ
 moves_made r = r / 2 ^ 32 % 2 ^ 32
@@ -102,7 +102,7 @@ UnderAllTold s r =
 -- ---- what an answer has to be so that a caller reads it off its number again: each part keeps to its bits, and so does a refusal number, which is not 0
 
 abbrev pub KeepsBits : Answer Result → Type 0
-KeepsBits (accepted r) = (r.bytes < 2 ^ 23) × (r.moves < 2 ^ 32)
+KeepsBits (accepted r) = (r.bytes < 2 ^ 24) × (r.moves < 2 ^ 32)
 KeepsBits (refused k) = (1 ≤ k) × (k < 2 ^ 8)
 
 abbrev pub CountsKeepBits : Answer Counts → Type 0

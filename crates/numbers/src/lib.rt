@@ -16,12 +16,12 @@ use sheet::Reading;
 use shut::{Change, SecondYard};
 use tariff::TariffChoice;
 
-// What the parts of a number count for that begin at bit 8, at bit 16, at bit 23, at bit 32, at bit 48 and at bit 56.
+// What the parts of a number count for that begin at bit 8, at bit 16, at bit 24, at bit 32, at bit 48 and at bit 56.
 const BIT_8: u64 = 256;
 
 const BIT_16: u64 = 65536;
 
-const BIT_23: u64 = 8388608;
+const BIT_24: u64 = 16777216;
 
 const BIT_32: u64 = 4294967296;
 
@@ -52,13 +52,13 @@ pub fn counts_number(reading: Reading) -> u64
     }
 }
 
-// What a call that writes a plan answers. Bits 8 to 30: the bytes written; bit 31 is 0 (crate `search_numbers` has it); bits 32 to 63: the moves.
+// What a call that writes a plan answers. Bits 8 to 31: the bytes written; bits 32 to 63: the moves.
 pub fn plan_number(planned: Planned) -> u64
     ensures { result ≡ result_number (planned_answer planned) }
 {
     match planned {
         Planned::Written { bytes, moves } => {
-            (bytes as u64) % BIT_23 * BIT_8 + (moves as u64) * BIT_32
+            (bytes as u64) % BIT_24 * BIT_8 + (moves as u64) * BIT_32
         }
         Planned::Refused(number) => number as u64,
     }

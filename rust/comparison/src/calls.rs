@@ -1,7 +1,5 @@
 //! The implementations of document 01 side by side: the proved library, the second program, and the fast one. Every call comes
-//! without a tariff and by one (paper 3 of document 02). `searches` has those with a limit on moves.
-pub mod searches;
-
+//! without a tariff and by one (paper 3 of document 02).
 use crate::{fast, literal};
 use planner::{library, Answer, Counts, Second, Tariff, Written};
 

@@ -21,13 +21,11 @@ pub mod library;
 mod plan;
 pub mod raw;
 mod refusal;
-mod searched;
 mod sheet;
 pub mod table;
 
 pub use plan::{OpenYard, Plan, PlannedFarm};
 pub use refusal::Refusal;
-pub use searched::{SearchedPlan, StoppedPlan};
 pub use sheet::Sheet;
 
 /// What the amounts of haul records are (paper 3 of document 02): hauls as written, or distances by the house tariff or by a tariff
@@ -52,16 +50,6 @@ pub struct Counts {
 pub struct Written {
     pub bytes: usize,
     pub moves: u32,
-}
-
-/// What an accepted search with a limit on its moves writes and tells (paper 7 of document 02): settled, or stopped where so many moves
-/// were made and another one would lower the cost.
-#[derive(Clone, Copy, Debug, PartialEq, Eq)]
-pub struct Searched {
-    pub written: Written,
-    pub stopped: bool,
-    /// The set reached: bit i marks yard i.
-    pub set: u32,
 }
 
 /// A farm's second cheapest open yard (paper 5 of document 02), and the haul of one load there.

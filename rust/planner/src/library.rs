@@ -3,13 +3,10 @@
 //! Every call takes any bytes, any set, any count and any area. A refused call gives document 01's number and leaves the area as
 //! it was. A slice of Rust is what `planner.h` asks of a pointer and its length, and an area lent as `&mut` overlaps no sheet: so
 //! every call below is sound.
-mod searches;
 #[cfg(test)]
 mod tests;
 
 use crate::{raw, Answer, Counts, Second, Tariff, Written};
-
-pub use searches::{limited_search_by, limited_search_from_by, open_search_by, open_search_from_by, plan_set};
 
 /// The counts of yards and farms, or the number of the first question of 1 to 4, 10, 5 and 6 that is answered no.
 pub fn read(sheet: &[u8]) -> Answer<Counts> {
@@ -143,10 +140,10 @@ fn counted(result: u64) -> Answer<Counts> {
     Ok(Counts { yards: (result >> 8 & 0xFF) as usize, farms: (result >> 16 & 0xFF) as usize })
 }
 
-/// Bits 8 to 30: the bytes written; bits 32 to 63: the moves.
+/// Bits 8 to 31: the bytes written; bits 32 to 63: the moves.
 fn written(result: u64) -> Answer<Written> {
     accepted(result)?;
-    Ok(Written { bytes: (result >> 8 & 0x7F_FFFF) as usize, moves: (result >> 32) as u32 })
+    Ok(Written { bytes: (result >> 8 & 0xFF_FFFF) as usize, moves: (result >> 32) as u32 })
 }
 
 /// Bit 8: whether there is a second yard; bits 16 to 23: that yard; bits 32 to 63: the haul there.

@@ -64,48 +64,4 @@ extern "C" {
         offers: *const u8,
         offers_len: usize,
     ) -> u64;
-    pub fn planner_open_search(
-        sheet: *const u8,
-        sheet_len: usize,
-        hauls: u8,
-        tariff: *const u8,
-        tariff_len: usize,
-        limit: u64,
-        area: *mut u8,
-        area_len: usize,
-    ) -> u64;
-    pub fn planner_open_search_from(
-        sheet: *const u8,
-        sheet_len: usize,
-        hauls: u8,
-        tariff: *const u8,
-        tariff_len: usize,
-        start: u32,
-        limit: u64,
-        area: *mut u8,
-        area_len: usize,
-    ) -> u64;
-    pub fn planner_limited_search(
-        sheet: *const u8,
-        sheet_len: usize,
-        hauls: u8,
-        tariff: *const u8,
-        tariff_len: usize,
-        k: usize,
-        limit: u64,
-        area: *mut u8,
-        area_len: usize,
-    ) -> u64;
-    pub fn planner_limited_search_from(
-        sheet: *const u8,
-        sheet_len: usize,
-        hauls: u8,
-        tariff: *const u8,
-        tariff_len: usize,
-        start: u32,
-        limit: u64,
-        area: *mut u8,
-        area_len: usize,
-    ) -> u64;
-    pub fn planner_plan_set(area: *const u8, area_len: usize, bytes: usize) -> u32;
 }

@@ -1,6 +1,6 @@
 //! A haul sheet with what its haul amounts are, and every call on it.
 use crate::format::{offers, MOST_AREA};
-use crate::{library, Answer, Counts, Plan, Refusal, Searched, SearchedPlan, Second, StoppedPlan, Tariff, Written};
+use crate::{library, Answer, Counts, Plan, Refusal, Second, Tariff, Written};
 
 /// The bytes of a sheet, of hauls or of distances that a tariff prices. Nothing is asked of them before a call.
 #[derive(Clone, Copy, Debug, PartialEq, Eq)]
@@ -40,27 +40,6 @@ impl<'a> Sheet<'a> {
         plan(|area| library::limited_plan_by(self.bytes, self.tariff, k, area))
     }
 
-    /// The open search with at most so many moves, from the single yard of least full cost (paper 7). A limit of 2^32 - 1 or more stops
-    /// no search.
-    pub fn open_search(self, limit: u64) -> Result<SearchedPlan, Refusal> {
-        searched(|area| library::open_search_by(self.bytes, self.tariff, limit, area))
-    }
-
-    /// The same from a given set of yards; bit i marks yard i.
-    pub fn open_search_from(self, start: u32, limit: u64) -> Result<SearchedPlan, Refusal> {
-        searched(|area| library::open_search_from_by(self.bytes, self.tariff, start, limit, area))
-    }
-
-    /// The limited search with at most so many moves, from yards 0 to k - 1 (paper 7).
-    pub fn limited_search(self, k: usize, limit: u64) -> Result<SearchedPlan, Refusal> {
-        searched(|area| library::limited_search_by(self.bytes, self.tariff, k, limit, area))
-    }
-
-    /// The same from a given set, whose count of yards it keeps.
-    pub fn limited_search_from(self, start: u32, limit: u64) -> Result<SearchedPlan, Refusal> {
-        searched(|area| library::limited_search_from_by(self.bytes, self.tariff, start, limit, area))
-    }
-
     /// A farm's second cheapest yard of a set (paper 5).
     pub fn second(self, set: u32, farm: usize) -> Result<Option<Second>, Refusal> {
         library::second_by(self.bytes, self.tariff, set, farm).map_err(Refusal)
@@ -82,15 +61,4 @@ fn plan(call: impl FnOnce(&mut [u8]) -> Answer<Written>) -> Result<Plan, Refusal
     let mut area = [0; MOST_AREA];
     let written = call(&mut area).map_err(Refusal)?;
     Ok(Plan::of_records(&area[..written.bytes]))
-}
-
-/// What a search comes to, with the plan that it writes.
-fn searched(call: impl FnOnce(&mut [u8]) -> Answer<Searched>) -> Result<SearchedPlan, Refusal> {
-    let mut stopped = false;
-    let reached = plan(|area| {
-        let searched = call(area)?;
-        stopped = searched.stopped;
-        Ok(searched.written)
-    })?;
-    Ok(if stopped { SearchedPlan::Stopped(StoppedPlan::reached(reached)) } else { SearchedPlan::Settled(reached) })
 }

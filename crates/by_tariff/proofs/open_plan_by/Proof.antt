@@ -1,26 +1,115 @@
--- `open_plan_by` meets its contract: the search without a limit gives its plan, and what is promised follows from its two equations.
-use native.Mathlib.Nat.{le_refl}
-use Rattle.engine.specs.Bounds.{no_limit}
-use Rattle.search.proofs.PlanningLaws.{as_planned}
-use Rattle.by_tariff.proofs.PlanningByLaws.{open_unlimited_by, open_by_promises}
+-- `open_plan_by` meets its contract: the plan is made on the sheet of hauls, or the refusal handed on.
+use mathlib.Core.Path.{refl, sym}
+use lib.ListN.{length}
+use Rattle.distances.proofs.CallLaws.{part_within, part_length, as_written, as_priced, as_refused, on_written, on_priced, on_refused}
+use Rattle.price.proofs.PricingLaws.{refuses, as_outcome}
+use Rattle.search.specs.Planning.{open_planning}
+use Rattle.by_tariff.specs.PlanningBy.{open_planning_by}
+use Rattle.search.specs.Promises.{OpenPlanSettled, OpenPlanBounded}
+use Rattle.by_tariff.proofs.PlanningByLaws.{open_first}
 use borrow.Author.Rules.{rules}
 use Rattle.by_tariff.proofs.open_plan_by.Statement.{statement}
 use Rattle.by_tariff.proofs.open_plan_by.Tie as tie
 
-open-search-requires : tie.Need-open-search-requires
-open-search-requires c κs = search rules
+slice-aggregate-hauls-by : tie.Need-slice-aggregate-hauls-by
+slice-aggregate-hauls-by c = search rules
 
-written-requires : tie.Need-written-requires
-written-requires c κs = search rules
+hauls-by-requires : tie.Need-hauls-by-requires
+hauls-by-requires c κs = search rules
+
+enum_told : tie.Need-enum-told
+enum_told c = search rules
+
+open-plan-requires : tie.Need-open-plan-requires
+open-plan-requires c κs = search rules
+
+enum-known-bytes : tie.Need-enum-known-bytes
+enum-known-bytes c = search rules
+
+array-share-prefix-hauls : tie.Need-array-share-prefix-hauls
+array-share-prefix-hauls c = let told = c.before.before.before in
+    part_within _ _ told.hauls2.given _ _ c.before.bytes.given.1 told.before.hauls-by.ensures.1
+
+slice-aggregate-open-plan : tie.Need-slice-aggregate-open-plan
+slice-aggregate-open-plan c = let told = c.before.before.before.before in
+    part_length _ _ told.hauls2.given _ _ c.before.before.bytes.given.1 told.before.hauls-by.ensures.1 _ refl
+
+open-plan-requires-2 : tie.Need-open-plan-requires-2
+open-plan-requires-2 c κs = search rules
+
+enum-known-number : tie.Need-enum-known-number
+enum-known-number c = search rules
 
 same_length : tie.Need-same-length
 same_length c = search rules
 
 returns : tie.Need-returns
-returns c = let made = c.before.before.before in
-    let s = made.before.before.before.before.before in
-    open_by_promises _ _ _ c.written.result s.args.area.now _
-    (as_planned _ _ (open_unlimited_by _ (le_refl no_limit) _ _ _ _) made.open-search.result c.written.result _ _ (made.open-search.ensures.0, made.open-search.ensures.1.0) c.written.ensures)
+unfolding open_planning_by
+returns c = let arm = c.before.before.before.before in
+    let made = arm.before.before.before in
+    let a = made.before.before.before.before.before.args in
+    let planned = c.before.before.open-plan in
+    let next = planned.new.1.0 in
+    let told = made.hauls-by.ensures.0 in
+    let both = as_outcome (as_written _ _ _ _ (search rules) _ _ told (λ h. open_planning h (length a.area.now)) arm.enum_told.given.1)
+    planned.result _ _ (planned.ensures.0, planned.ensures.1.0) in (
+      both.0,
+      (
+        both.1,
+        (
+          on_written _ _ _ _ (search rules) _ _ told (λ h. OpenPlanSettled h planned.result next) arm.enum_told.given.1 planned.ensures.1.1.0,
+          on_written _ _ _ _ (search rules) _ _ told (λ h. OpenPlanBounded h planned.result next) arm.enum_told.given.1 planned.ensures.1.1.1,
+        ),
+      ),
+    )
+
+same-length-2 : tie.Need-same-length-2
+same-length-2 c = search rules
+
+returns-2 : tie.Need-returns-2
+unfolding open_planning_by
+returns-2 c = let arm = c.before.before.before.before.before.before in
+    let made = arm.before.before.before in
+    let a = made.before.before.before.before.before.args in
+    let planned = c.before.before.open-plan2 in
+    let next = planned.new.1.0 in
+    let told = made.hauls-by.ensures.0 in
+    let both = as_outcome (as_priced _ _ _ _ (search rules) _ _ told (λ h. open_planning h (length a.area.now)) (open_first (length a.area.now)) _ arm.bytes.given.1)
+    planned.result _ _ (planned.ensures.0, planned.ensures.1.0) in (
+      both.0,
+      (
+        both.1,
+        (
+          on_priced _ _ _ _ (search rules) _ _ told (λ h. OpenPlanSettled h planned.result next) _ arm.bytes.given.1 planned.ensures.1.1.0,
+          on_priced _ _ _ _ (search rules) _ _ told (λ h. OpenPlanBounded h planned.result next) _ arm.bytes.given.1 planned.ensures.1.1.1,
+        ),
+      ),
+    )
+
+returns-3 : tie.Need-returns-3
+unfolding open_planning_by
+returns-3 c = let arm = c.before in
+    let made = arm.before.before.before in
+    let a = made.before.before.before.before.before.args in
+    let told = made.hauls-by.ensures.0 in
+    let both = refuses _ a.area.now _ (sym (as_refused _ _ _ _ (search rules) _ _ told (λ h. open_planning h (length a.area.now)) _ arm.number.given.1)) in
+    (both.0, (both.1, (on_refused _ _ _ _ (search rules) _ _ told _ _ arm.number.given.1, on_refused _ _ _ _ (search rules) _ _ told _ _ arm.number.given.1)))
 
 pub open-plan-by-spec : {M : Type 1} → statement M
-open-plan-by-spec = tie.close (tie.spec open-search-requires written-requires same_length returns)
+open-plan-by-spec =
+    tie.close
+    (tie.spec
+    slice-aggregate-hauls-by
+    hauls-by-requires
+    enum_told
+    open-plan-requires
+    enum-known-bytes
+    array-share-prefix-hauls
+    slice-aggregate-open-plan
+    open-plan-requires-2
+    enum-known-number
+    same_length
+    returns
+    same-length-2
+    returns-2
+    returns-3)

@@ -1,26 +1,21 @@
--- `limited_plan` meets its contract: the search without a limit gives `limited_planning`, and what is promised follows from its two equations.
-use native.Mathlib.Nat.{le_refl}
-use Rattle.engine.specs.Bounds.{no_limit}
-use Rattle.search.proofs.PlanningLaws.{limited_unlimited, as_planned}
+-- `limited_plan` meets its contract: what both plans go through gives `limited_planning`, and what is promised follows from its two equations.
+use Rattle.price.proofs.PricingLaws.{as_outcome}
+use Rattle.search.proofs.PlanningLaws.{limited_planning_lem}
 use Rattle.search.proofs.PromiseLaws.{limited_promises}
 use borrow.Author.Rules.{rules}
 use Rattle.search.proofs.limited_plan.Statement.{statement}
 use Rattle.search.proofs.limited_plan.Tie as tie
 
-search-plan-requires : tie.Need-search-plan-requires
-search-plan-requires c κs = search rules
-
-written-requires : tie.Need-written-requires
-written-requires c κs = search rules
+plan-with-requires : tie.Need-plan-with-requires
+plan-with-requires c κs = search rules
 
 same_length : tie.Need-same-length
 same_length c = search rules
 
 returns : tie.Need-returns
-returns c = let made = c.before.before.before in
-    let s = made.before.before.before.before in
-    limited_promises _ c.written.result s.args.area.now _ _
-    (as_planned _ _ (limited_unlimited _ (le_refl no_limit) _ _ _) made.search-plan.result c.written.result _ _ made.search-plan.ensures c.written.ensures)
+returns c = let made = c.before.before.plan-with in
+    limited_promises _ made.result c.before.before.before.before.before.before.args.area.now _ _
+    (as_outcome (limited_planning_lem _ _ _) made.result _ _ made.ensures)
 
 pub limited-plan-spec : {M : Type 1} → statement M
-limited-plan-spec = tie.close (tie.spec search-plan-requires written-requires same_length returns)
+limited-plan-spec = tie.close (tie.spec plan-with-requires same_length returns)

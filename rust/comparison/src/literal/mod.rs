@@ -1,9 +1,8 @@
-//! Document 01, with papers 1, 2, 3, 5, 7 and 10 of document 02, written a second time, sentence by sentence and in its order, to
+//! Document 01, with papers 1, 2, 3, 5 and 10 of document 02, written a second time, sentence by sentence and in its order, to
 //! compare the proved library with. Plain before fast: every question is asked over the whole sheet and every move is priced from
 //! nothing.
 mod floor;
 mod haul_sheet;
-mod limit;
 mod plan_area;
 mod questions;
 mod search;
@@ -14,10 +13,9 @@ mod tests;
 
 use planner::{Answer, Counts, Tariff, Written};
 use questions::{ask, ask_1_to_4, ask_1_to_6, question_7, question_8, question_9};
-use search::Reached;
+use search::Settled;
 
 pub use floor::floor_by;
-pub use limit::{limited_search_by, limited_search_from_by, open_search_by, open_search_from_by, plan_set};
 pub use search::{ChosenBy, Move};
 pub use shut::{second_by, shut_by};
 
@@ -51,7 +49,7 @@ pub fn price_by(sheet: &[u8], tariff: Tariff, set: u32, area: &mut [u8]) -> Answ
     let sheet = ask_1_to_6(sheet, tariff)?;
     ask(8, question_8(&sheet, set))?;
     ask(9, question_9(&sheet, area))?;
-    let priced = Reached { set, moves: Vec::new(), stopped: false };
+    let priced = Settled { set, moves: Vec::new() };
     Ok(plan_area::write(&sheet, &priced, sheet.full_cost(set), area))
 }
 

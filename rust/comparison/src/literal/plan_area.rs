@@ -1,10 +1,10 @@
 //! Document 01, "The plan area", with the loads of paper 2 of document 02.
 use super::haul_sheet::{HaulSheet, Record, RECORD_BYTES};
-use super::search::Reached;
+use super::search::Settled;
 use planner::Written;
 
 /// An open yard.
-pub const OPEN: u8 = 0x4F;
+const OPEN: u8 = 0x4F;
 /// A farm with its yard and haul.
 const FARM: u8 = 0x41;
 /// The total.
@@ -14,29 +14,29 @@ const MOVES: u8 = 0x4D;
 
 /// Writes the plan's records to the front of the area, which question 9 found large enough. The area past the last record is
 /// unchanged. The call returns the bytes written and the moves.
-pub fn write(sheet: &HaulSheet, reached: &Reached, total: u64, area: &mut [u8]) -> Written {
-    let records = plan_records(sheet, reached, total);
+pub fn write(sheet: &HaulSheet, settled: &Settled, total: u64, area: &mut [u8]) -> Written {
+    let records = plan_records(sheet, settled, total);
     for (record, place) in records.iter().zip(area.chunks_exact_mut(RECORD_BYTES)) {
         place.copy_from_slice(&record.to_bytes());
     }
-    Written { bytes: RECORD_BYTES * records.len(), moves: reached.moves.len() as u32 }
+    Written { bytes: RECORD_BYTES * records.len(), moves: settled.moves.len() as u32 }
 }
 
 /// One record for each open yard by number, one for each farm by number, one of the total, one of the moves made.
-fn plan_records(sheet: &HaulSheet, reached: &Reached, total: u64) -> Vec<Record> {
-    let open: Vec<usize> = sheet.open_yards(reached.set).collect();
+fn plan_records(sheet: &HaulSheet, settled: &Settled, total: u64) -> Vec<Record> {
+    let open: Vec<usize> = sheet.open_yards(settled.set).collect();
     let mut records = Vec::new();
     for &yard in &open {
         records.push(record(OPEN, yard, 0, sheet.fees[yard]));
     }
     for farm in 0..sheet.n() {
-        let yard = sheet.given_yard(reached.set, farm);
+        let yard = sheet.given_yard(settled.set, farm);
         let of_one_load = record(FARM, yard, farm, sheet.haul(yard, farm));
         // Paper 2: the farm record repeats the byte, and still shows the haul of one load.
         records.push(Record { byte_3: sheet.loads_byte(farm), ..of_one_load });
     }
     records.push(record(TOTAL, open.len(), sheet.n(), total));
-    records.push(record(MOVES, 0, 0, reached.moves.len() as u64));
+    records.push(record(MOVES, 0, 0, settled.moves.len() as u64));
     records
 }
 

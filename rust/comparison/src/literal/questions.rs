@@ -11,7 +11,7 @@ const MOST_FARMS: usize = 128;
 const MOST_LOADS: u8 = 20;
 const HIGHEST_FEE: u64 = 50_000_000;
 const HIGHEST_HAUL: u64 = 1_000_000;
-pub const SET_BITS: usize = u32::BITS as usize;
+const SET_BITS: usize = u32::BITS as usize;
 
 /// A "no" gives the number.
 pub fn ask(number: u8, yes: bool) -> Answer<()> {

@@ -45,7 +45,7 @@ impl HaulSheet {
         (0..self.m()).filter(move |&yard| marks(set, yard))
     }
 
-    pub fn closed_yards(&self, set: u32) -> impl Iterator<Item = usize> {
+    fn closed_yards(&self, set: u32) -> impl Iterator<Item = usize> {
         (0..self.m()).filter(move |&yard| !marks(set, yard))
     }
 }
@@ -77,31 +77,20 @@ impl Move {
     }
 }
 
-pub fn bit(yard: usize) -> u32 {
+fn bit(yard: usize) -> u32 {
     1 << yard
 }
 
-/// The set that a search reaches, and the moves it made. Paper 7: it is settled, or stopped exactly if as many moves as the limit
-/// were made and another move would lower the cost.
-pub struct Reached {
+/// Where a search ends, and the moves it made.
+pub struct Settled {
     pub set: u32,
     pub moves: Vec<Move>,
-    pub stopped: bool,
 }
 
-/// Open plan, without a limit on its moves.
-pub fn open_plan(sheet: &HaulSheet) -> Reached {
-    open_search(sheet, open_start(sheet), None)
-}
-
-/// Start: the single yard of least full cost, the first and so the lowest number among equals.
-pub fn open_start(sheet: &HaulSheet) -> u32 {
-    bit((0..sheet.m()).min_by_key(|&yard| sheet.full_cost(bit(yard))).expect("the sheet has a yard"))
-}
-
-/// Open plan, by full cost, with the largest number of moves where one is given.
-pub fn open_search(sheet: &HaulSheet, start: u32, limit: Option<u64>) -> Reached {
-    search(sheet, start, limit, HaulSheet::full_cost, open_plan_moves)
+/// Open plan, by full cost. Start: the single yard of least full cost, the first and so the lowest number among equals.
+pub fn open_plan(sheet: &HaulSheet) -> Settled {
+    let yard = (0..sheet.m()).min_by_key(|&yard| sheet.full_cost(bit(yard))).expect("the sheet has a yard");
+    settle(sheet, bit(yard), HaulSheet::full_cost, open_plan_moves)
 }
 
 /// Add each closed yard, by number; drop each open yard, by number, only while two or more are open; then the swaps.
@@ -125,46 +114,31 @@ pub fn swaps(sheet: &HaulSheet, set: u32) -> Vec<Move> {
     moves
 }
 
-/// Limited plan, without a limit on its moves.
-pub fn limited_plan(sheet: &HaulSheet, k: usize) -> Reached {
-    limited_search(sheet, limited_start(k), None)
-}
-
-/// Start: yards 0 to k − 1.
-pub fn limited_start(k: usize) -> u32 {
-    (0..k).fold(0, |set, yard| set | bit(yard))
-}
-
-/// Limited plan, by haul cost; fees do not count. Moves: swaps alone, same order. Of a given set k is the count of yards, which no
-/// swap changes.
-pub fn limited_search(sheet: &HaulSheet, start: u32, limit: Option<u64>) -> Reached {
-    search(sheet, start, limit, HaulSheet::haul_cost, swaps)
+/// Limited plan, by haul cost; fees do not count. Start: yards 0 to k − 1. Moves: swaps alone, same order.
+pub fn limited_plan(sheet: &HaulSheet, k: usize) -> Settled {
+    let start = (0..k).fold(0, |set, yard| set | bit(yard));
+    settle(sheet, start, HaulSheet::haul_cost, swaps)
 }
 
 /// At each step the move of least resulting cost is taken, if that cost is strictly less than the present one. The search
-/// yields its plan at the step where no move lowers the cost, or where the limit is reached.
-pub fn search(
+/// yields its plan at the step where no move lowers the cost.
+fn settle(
     sheet: &HaulSheet,
     start: u32,
-    limit: Option<u64>,
     cost: fn(&HaulSheet, u32) -> u64,
     moves_in_order: fn(&HaulSheet, u32) -> Vec<Move>,
-) -> Reached {
-    let mut reached = Reached { set: start, moves: Vec::new(), stopped: false };
+) -> Settled {
+    let mut settled = Settled { set: start, moves: Vec::new() };
     loop {
         // Among equals `min_by_key` gives the earliest in order.
-        let moves = moves_in_order(sheet, reached.set);
-        let least = moves.into_iter().min_by_key(|step| cost(sheet, step.result(reached.set)));
+        let moves = moves_in_order(sheet, settled.set);
+        let least = moves.into_iter().min_by_key(|step| cost(sheet, step.result(settled.set)));
         match least {
-            Some(step) if cost(sheet, step.result(reached.set)) < cost(sheet, reached.set) => {
-                if limit == Some(reached.moves.len() as u64) {
-                    reached.stopped = true;
-                    return reached;
-                }
-                reached.set = step.result(reached.set);
-                reached.moves.push(step);
+            Some(step) if cost(sheet, step.result(settled.set)) < cost(sheet, settled.set) => {
+                settled.set = step.result(settled.set);
+                settled.moves.push(step);
             }
-            _ => return reached,
+            _ => return settled,
         }
     }
 }

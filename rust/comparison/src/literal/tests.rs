@@ -1,8 +1,7 @@
 //! What only this program tells: the moves one by one, the costs of sets, what a yard is chosen by, a farm's stretch; and each of
-//! these with loads. `floor` has offers and their sums, `limit` searches that are stopped or begin from a given set, `shut` second
-//! yards and what shutting one changes, `tariffs` hauls from a tariff.
+//! these with loads. `floor` has offers and their sums, `shut` second yards and what shutting one changes, `tariffs` hauls from a
+//! tariff.
 mod floor;
-mod limit;
 mod shut;
 mod tariffs;
 

@@ -1,8 +1,7 @@
-//! Seeded sheets of every kind: tables by the way their amounts are drawn (`tables`), with loads (`loads`), sheets of good form
-//! (`good_form`), sheets with a fault made on purpose (`faults`) or by chance (`chance`), those that document 01 names (`named`),
-//! and the kept sheets whose open plan drops a yard (`kept`); tariffs (`tariffs`), broken ones (`breaks`), sheets of distances
-//! (`distances`), and a tariff beside a sheet (`beside`); offers of one amount per farm (`offers`); limits and starts of searches
-//! (`searches`), and sheets on which they settle far above the best set (`hard`).
+//! Seeded sheets of every kind: tables by the way their amounts are drawn (`tables`), with loads (`loads`), sheets of good
+//! form (`good_form`), sheets with a fault made on purpose (`faults`) or by chance (`chance`), those that document 01 names
+//! (`named`), and the kept sheets whose open plan drops a yard (`kept`); tariffs (`tariffs`), broken ones (`breaks`), sheets of
+//! distances (`distances`), and a tariff beside a sheet (`beside`); and offers of one amount per farm (`offers`).
 use crate::random::Random;
 use planner::table::Table;
 use planner::{Answer, Counts};
@@ -13,12 +12,10 @@ mod chance;
 mod distances;
 mod faults;
 mod good_form;
-mod hard;
 mod kept;
 mod loads;
 mod named;
 mod offers;
-mod searches;
 mod tables;
 mod tariffs;
 
@@ -31,14 +28,12 @@ pub use chance::{damaged, loose_records, random_bytes};
 pub use distances::put_amount;
 pub use faults::{faulty, several_faults};
 pub use good_form::{accepted, broken_by_one_cent, kept_to_the_cent, tied, unrepaired};
-pub use hard::{hard_open, hard_scaled, hard_swaps};
 pub use kept::{kept, kept_moves};
 pub use loads::{any_loads, put_loads, with_any_loads};
 pub use named::named;
 pub use offers::{
     accepted_offers, any_offers, broken_offers, fee_just_met, huge_offers, one_cent_over, tight_offers, BREAKS,
 };
-pub use searches::{limits, loose_area, refused_starts, starts};
 pub use tables::{from_lists, manhattan, plane, repair, small_amounts, within_threefold};
 pub use tariffs::{house_tariff, one_rate, tariff, TariffSample};
 

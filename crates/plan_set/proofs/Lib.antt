@@ -1,2 +1,0 @@
--- OpenedLaws: a loop over records collects their yards.
-pub mod OpenedLaws

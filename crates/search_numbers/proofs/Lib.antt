@@ -1,2 +1,0 @@
--- SearchSaidLaws: what the number says is what the call answered.
-pub mod SearchSaidLaws
