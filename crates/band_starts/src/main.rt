@@ -1,4 +1,7 @@
 // Prints what the house tariff costs at each band's start, worked out from the bands, one number a line (document 02, paper 6).
+
+#![tactic(auto)]
+
 ghost use Rattle.std.specs.Prelude.{◌≡◌, ◌<◌};
 ghost use Rattle.tariff.specs.Bands.{cost_before};
 ghost use Rattle.tariff.specs.House.{house};

@@ -2,6 +2,9 @@
 //
 // Every call is total: it takes any bytes as the sheet and as the tariff. The tariff's bytes count for a given one alone. What is promised is promised
 // of the sheet of hauls, by which the rival's prices go too.
+
+#![tactic(auto)]
+
 ghost use Rattle.std.specs.Prelude.{◌≡◌, length};
 ghost use Rattle.distances.specs.Priced.{sheet_by, OnHauls};
 ghost use Rattle.price.specs.Pricing.{planned_answer, answer, area_after};

@@ -2,6 +2,9 @@
 //
 // A call on a sheet of distances is the call on the sheet of its hauls. `hauls_by` gives that sheet to the calls that go by a tariff, and `read_by`
 // reads it. Every call is total: it takes any bytes as the sheet and as the tariff.
+
+#![tactic(auto)]
+
 mod block;
 mod priced;
 

@@ -3,6 +3,9 @@
 // `search` goes from a start by the moves asked for, adds, drops and swaps or swaps alone, while they lower the total cost of the set by the
 // tables, and with at most so many of them. It prices every move by sums over the clients that it keeps from move to move. It has the
 // tables looked through (crate `tables`) and looks at the start itself: it takes any, and turns down what specs/SearchOnTables.antt says.
+
+#![tactic(auto)]
+
 mod bounds;
 mod clients;
 mod columns;

@@ -6,6 +6,9 @@
 //
 // A call whose name ends in `by`, `second`, `shut` or `floor` is told what the amounts of haul records are: `hauls` is 0 for hauls as written, 1 for distances by the house
 // tariff, and any other number for distances by the tariff that is handed over, whose bytes count only then.
+
+#![tactic(auto)]
+
 ghost use Rattle.std.specs.Prelude.{◌≡◌, length, get_or};
 ghost use Rattle.questions.specs.Reading.{reading};
 ghost use Rattle.stretch.specs.Stretch.{farm_hauls, farm_from, HaulsFrom};

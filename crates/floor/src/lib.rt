@@ -1,5 +1,8 @@
 // A floor under all lists (document 02, paper 10): amounts that somebody offers, one for each farm, found by any means, are looked at, and their sum is
 // given back, which no set of yards costs less than. The call asks what reading asks, then 15 and 16, is lent no area, and is total.
+
+#![tactic(auto)]
+
 ghost use Rattle.std.specs.Prelude.{◌≡◌, ◌≤◌};
 ghost use Rattle.questions.specs.Bounds.{most_farms};
 ghost use Rattle.floor.specs.Offering.{bound_answer, is_offer, question15, offering, UnderAll};

@@ -1,4 +1,7 @@
 // A floor under all lists by a tariff (document 02, papers 3 and 10). The call is total.
+
+#![tactic(auto)]
+
 ghost use Rattle.std.specs.Prelude.{◌≡◌};
 ghost use Rattle.distances.specs.Priced.{sheet_by, OnHauls};
 ghost use Rattle.floor.specs.Offering.{bound_answer, UnderAll};

@@ -2,6 +2,9 @@
 //
 // `keeps_rule` takes, for each two facilities, the cheapest route between them through a client, and holds against it what the costs
 // of a client at the two differ by. It takes any table at all.
+
+#![tactic(auto)]
+
 mod costs;
 mod pairs;
 mod units;

@@ -1,5 +1,8 @@
 // A farm's nearest open yard: the smallest haul, among equals the lower fee, and only then the lower number (document 02, paper 1). And its second
 // one, the nearest of the others (paper 5). Every call is total.
+
+#![tactic(auto)]
+
 ghost use Rattle.std.specs.Prelude.{◌≡◌, ◌<◌, min};
 ghost use Rattle.sets.specs.Members.{listed};
 ghost use Rattle.nearest.specs.Nearest.{nearest_in, nearest_on, second_on};

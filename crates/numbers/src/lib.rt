@@ -2,6 +2,9 @@
 // the refusal number, 0 where the call is accepted, and those above them what the call returns. A refused call gives its number alone.
 //
 // Every call is total: what has more bits than its place in the number holds is cut, which no answer of a call has.
+
+#![tactic(auto)]
+
 ghost use Rattle.std.specs.Prelude.{◌≡◌, ◌^◌, ◌≤◌, nat_abs};
 ghost use Rattle.model.specs.Loops.{on};
 ghost use Rattle.questions.specs.Reading.{reading_answer};

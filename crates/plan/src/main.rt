@@ -1,4 +1,7 @@
 // Reads one sheet from standard input and prints its open plan, or the number of the question that refuses it.
+
+#![tactic(auto)]
+
 use libc::{STDERR_FILENO, STDIN_FILENO, STDOUT_FILENO};
 use plan_area::{KIND_FARM, KIND_MOVES, KIND_OPEN, KIND_TOTAL};
 use price::Planned;

@@ -1,6 +1,9 @@
 // The plan area: the records of a plan in an area that the caller lends.
 //
 // `write_plan`, with `plan_fits`, writes the plan of any set for callers that have read the sheet. Every call is total.
+
+#![tactic(auto)]
+
 mod plan;
 
 pub use plan::{KIND_FARM, KIND_MOVES, KIND_OPEN, KIND_TOTAL, Total, plan_fits, write_plan};

@@ -1,5 +1,8 @@
 // Pricing a set of yards: `price` asks what reading asks and questions 8 and 9 of document 01, and writes the plan of the set that it is given. The
 // call is total.
+
+#![tactic(auto)]
+
 ghost use Rattle.std.specs.Prelude.{◌≡◌, length};
 ghost use Rattle.price.specs.Pricing.{planned_answer, answer, area_after, question8, pricing, SetKept};
 

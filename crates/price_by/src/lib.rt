@@ -1,4 +1,7 @@
 // Pricing a set of yards by a tariff (document 02, paper 3). The call is total.
+
+#![tactic(auto)]
+
 ghost use Rattle.std.specs.Prelude.{◌≡◌, length};
 ghost use Rattle.price.specs.Pricing.{planned_answer, answer, area_after, SetKept};
 ghost use Rattle.price_by.specs.PricingBy.{pricing_by};

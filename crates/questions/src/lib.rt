@@ -2,6 +2,9 @@
 //
 // `form_of` and `form_and_loads_of` give the counts of yards and farms or the number of the first "no"; `well_formed` is question 2 of one
 // record, and `loads_of` reads the byte of a farm's loads. All take anything.
+
+#![tactic(auto)]
+
 mod hauls;
 mod loads;
 mod yards;

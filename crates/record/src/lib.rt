@@ -1,6 +1,9 @@
 // The record: eight bytes, of whatever kind. Whatever reads or writes record bytes does it here.
 //
 // A record is a value; `at` reads one from bytes, `put` writes one to an area. Both take any bytes and any place.
+
+#![tactic(auto)]
+
 ghost use Rattle.std.specs.Prelude.{◌≡◌, ◌+◌, ◌≤◌, length};
 ghost use Rattle.record.specs.Records.{word, word_bytes, record_of, whole_record_at, splice, put_at};
 

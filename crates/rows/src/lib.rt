@@ -2,6 +2,9 @@
 //
 // What a sum changes by is put into a row of its own first: the compiler does four columns of that loop at a time, where the sums of 64 bits
 // would leave it two. The loops that change sums stand in one function with that row, so that the compiler sees that it is no part of the sums.
+
+#![tactic(auto)]
+
 ghost use Rattle.std.specs.Prelude.{◌≡◌, ◌+◌, ◌≤◌, length};
 ghost use Rattle.rows.specs.Shifts.{columns, fits, above, FrontHolds, above_at, between_at, raised, lowered, shifted, shifted_in, shifted_out};
 

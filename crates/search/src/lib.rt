@@ -2,6 +2,9 @@
 //
 // `open_plan` goes by fees and hauls and adds, drops and swaps yards; `limited_plan` keeps k yards and goes by hauls alone. Both read
 // the sheet once into tables and run the same search on them, that of `engine`. Every call is total.
+
+#![tactic(auto)]
+
 mod planning;
 mod sheet_tables;
 

@@ -1,4 +1,7 @@
 // Sets of yards in a 32-bit number, of which bit i marks yard i (document 01, question 8).
+
+#![tactic(auto)]
+
 ghost use Rattle.std.specs.Prelude.{◌≡◌, min};
 ghost use Rattle.model.specs.Loops.{on};
 ghost use Rattle.model.specs.Sets.{member, without};

@@ -1,6 +1,9 @@
 // The haul sheet, read where it lies.
 //
 // `read` asks questions 1 to 6 of document 01, with 10 of document 02 after 4. It is total: it takes any bytes at all.
+
+#![tactic(auto)]
+
 mod one_pass;
 
 ghost use Rattle.std.specs.Prelude.{◌≡◌};

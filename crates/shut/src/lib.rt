@@ -1,5 +1,8 @@
 // What if this yard shuts (document 02, paper 5): a farm's second open yard, and the change in full cost where one open yard shuts. Both calls ask
 // what reading asks and question 8 of the set, are lent no area, and are total.
+
+#![tactic(auto)]
+
 ghost use Rattle.std.specs.Prelude.{◌≡◌, ◌^◌, ◌<◌, ◌&&◌, leb, pos, ◌-ℤ◌};
 ghost use Rattle.model.specs.Sets.{member, without};
 ghost use Rattle.shut.specs.Shutting.{second_answer, seconding, shut_answer, shutting, IsDifference};

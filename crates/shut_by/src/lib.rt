@@ -1,4 +1,7 @@
 // What if this yard shuts, by a tariff (document 02, papers 3 and 5). Both calls are total.
+
+#![tactic(auto)]
+
 ghost use Rattle.std.specs.Prelude.{◌≡◌};
 ghost use Rattle.distances.specs.Priced.{sheet_by, OnHauls};
 ghost use Rattle.shut.specs.Shutting.{second_answer, shut_answer, IsDifference};

@@ -1,5 +1,8 @@
 // A farm's stretch of the sheet: the part that holds its haul records, uncopied, and the same in numbers, for callers that are handed no part of a slice.
 // Every call is total.
+
+#![tactic(auto)]
+
 ghost use Rattle.std.specs.Prelude.{◌≡◌, length, get_or};
 ghost use Rattle.stretch.specs.Stretch.{stretch, farm_hauls, farm_from, HaulsFrom};
 

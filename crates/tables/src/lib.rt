@@ -2,6 +2,9 @@
 //
 // `tables_good` looks through the opening costs and the service costs that a caller lends. The call is total: it takes any tables and any counts,
 // and says no where specs/Tables.antt does.
+
+#![tactic(auto)]
+
 ghost use Rattle.std.specs.Prelude.{◌≡◌, ◌≤◌, length};
 ghost use Rattle.model.specs.Loops.{all_below};
 ghost use Rattle.model.specs.Sets.{count};
