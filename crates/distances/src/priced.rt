@@ -19,7 +19,7 @@ use tariff::{BLOCK, Tariff};
 
 // Where the sheet of hauls is: it is the caller's sheet, or so many bytes of those lent, or there is none, and this is the number of the first
 // question that is answered no.
-#[derive(Drop)]
+#[derive(Clone, Copy)]
 pub enum HaulSheet {
     AsWritten,
     Priced(usize),

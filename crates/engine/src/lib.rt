@@ -29,14 +29,14 @@ use bounds::{ADDED, KEPT, NO_FACILITY, NO_OPENING, SERVICE};
 use tables::MOST_FACILITIES;
 
 // Which moves a search makes.
-#[derive(Drop)]
+#[derive(Clone, Copy)]
 pub enum Neighbourhood {
     AddDropSwap,
     Swap,
 }
 
 // Where a search begins: at the single facility of least total cost, the lowest number among equals, or at a set.
-#[derive(Drop)]
+#[derive(Clone, Copy)]
 pub enum Start {
     Cheapest,
     Set(u32),
@@ -44,7 +44,7 @@ pub enum Start {
 
 // How a search comes out. Refused: not begun, for its tables or its start. Stopped: all the moves that it may were made, and another would
 // lower the cost. Settled: no move lowers the cost. With the set, its cost and the moves made.
-#[derive(Drop)]
+#[derive(Clone, Copy)]
 pub enum Found {
     Refused,
     Stopped { set: u32, cost: u64, moves: u64 },

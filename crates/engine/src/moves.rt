@@ -14,7 +14,7 @@ use crate::bounds::{LOSS, MORE, TOP_BIT};
 use tables::MOST_FACILITIES;
 
 // A set with its cost.
-#[derive(Drop)]
+#[derive(Clone, Copy)]
 pub struct Priced {
     pub set: u32,
     pub cost: u64,

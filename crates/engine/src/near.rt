@@ -9,7 +9,7 @@ use crate::bounds::{COST_STEP, NO_FACILITY};
 use tables::MOST_FACILITIES;
 
 // A client's two nearest facilities, each with its cost in one number.
-#[derive(Drop)]
+#[derive(Clone, Copy)]
 pub struct Near {
     pub first: u64,
     pub second: u64,

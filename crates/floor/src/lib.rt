@@ -17,7 +17,7 @@ mod offered;
 pub const KIND_OFFER: u8 = 0x56;
 
 // A sum in cents that no set of yards costs less than, or the number of the first question that is answered no.
-#[derive(Drop)]
+#[derive(Clone, Copy)]
 pub enum LowerBound {
     Cents(u64),
     Refused(u8),

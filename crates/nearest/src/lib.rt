@@ -19,7 +19,7 @@ const NO_YARD: usize = 256;
 const LAST_KEY: u64 = 18446744073709551615;
 
 // A yard and the haul there; both 0 where none is found.
-#[derive(Drop)]
+#[derive(Clone, Copy)]
 pub struct Nearest {
     pub found: bool,
     pub yard: usize,
@@ -28,7 +28,7 @@ pub struct Nearest {
 
 // A yard with its key, the haul and the fee in one number: of two keys the lesser has the smaller haul or, among equals, the lower
 // fee.
-#[derive(Drop)]
+#[derive(Clone, Copy)]
 struct Choice {
     yard: usize,
     key: u64,

@@ -25,14 +25,14 @@ const AMOUNT_END: u64 = 4294967296;
 
 // What the record of the total shows: the set's full cost, as far as four bytes hold it, as they do on every accepted sheet, or an amount that is
 // given.
-#[derive(Drop)]
+#[derive(Clone, Copy)]
 pub enum Total {
     FullCost,
     Given(u32),
 }
 
 // What the set's records come to: so many open yards, at a full cost.
-#[derive(Drop)]
+#[derive(Clone, Copy)]
 struct Totals {
     open_yards: usize,
     cost: u64,

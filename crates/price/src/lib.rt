@@ -11,7 +11,7 @@ use sheet::{MOST_YARDS, Reading};
 
 // What a call that writes a plan answers: the bytes written and the moves made, or the number of the first question that is
 // answered no.
-#[derive(Drop)]
+#[derive(Clone, Copy)]
 pub enum Planned {
     Written { bytes: usize, moves: u32 },
     Refused(u8),

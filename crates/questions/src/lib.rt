@@ -31,7 +31,7 @@ pub const MOST_FARMS: usize = 128;
 pub const MOST_LOADS: u8 = 20;
 
 // The counts of a sheet that passes the questions asked, or the number of the first that it fails.
-#[derive(Drop)]
+#[derive(Clone, Copy)]
 pub enum Reading {
     Accepted { yards: usize, farms: usize },
     Refused(u8),

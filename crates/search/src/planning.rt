@@ -27,7 +27,7 @@ use sheet::{MOST_FARMS, MOST_YARDS, Reading};
 const HAULS: usize = MOST_YARDS * MOST_FARMS;
 
 // Where a search ends: the set, its cost, and the moves made.
-#[derive(Drop)]
+#[derive(Clone, Copy)]
 pub struct Settled {
     pub set: u32,
     pub cost: u64,

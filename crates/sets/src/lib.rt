@@ -44,7 +44,7 @@ pub fn removed(set: u32, i: usize) -> u32
 }
 
 // The yards of a set by number: the first `count` places of the list.
-#[derive(Drop)]
+#[derive(Clone, Copy)]
 pub struct Members {
     pub list: [u8; BITS],
     pub count: usize,

@@ -17,7 +17,7 @@ const MOST_FEE: u32 = 50000000;
 const MOST_HAUL: u32 = 1000000;
 
 // What the one pass answers: the counts of a sheet that passes these questions, or that it finds some fault.
-#[derive(Drop)]
+#[derive(Clone, Copy)]
 pub(crate) enum OnePass {
     Good { yards: usize, farms: usize },
     Faulty,

@@ -11,7 +11,7 @@ ghost use Rattle.shut.specs.HaulsMoved.{farm_there, farm_elsewhere};
 use record::Record;
 
 // Hauls times loads, at the yard and elsewhere.
-#[derive(Drop)]
+#[derive(Clone, Copy)]
 pub(crate) struct HaulsMoved {
     pub(crate) there: u64,
     pub(crate) elsewhere: u64,

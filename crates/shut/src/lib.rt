@@ -15,14 +15,14 @@ mod hauls_moved;
 
 // A farm's second open yard and the haul there, with `found` false and zeros where there is none; or the number of the first question that is
 // answered no.
-#[derive(Drop)]
+#[derive(Clone, Copy)]
 pub enum SecondYard {
     Told { found: bool, yard: usize, haul: u32 },
     Refused(u8),
 }
 
 // What shutting a yard changes, in cents, below zero where it saves money; or the number of the first question that is answered no.
-#[derive(Drop)]
+#[derive(Clone, Copy)]
 pub enum Change {
     Cents(i64),
     Refused(u8),

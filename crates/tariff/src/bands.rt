@@ -7,7 +7,7 @@ ghost use Rattle.tariff.specs.Making.{without_bands, with_band};
 pub(crate) const MOST_BANDS: usize = 16;
 
 // Distances from `start` up to `end`, in hundreds of metres, at `rate` cents for each hundred.
-#[derive(Drop)]
+#[derive(Clone, Copy)]
 pub struct Band {
     pub start: u16,
     pub end: u16,
@@ -28,7 +28,7 @@ impl Band {
 
 // A tariff to price by. In band i a haul is the distance times the rate, and the intercept: what the bands before cost more than they
 // would at this rate. The last band has the number `last` and ends at `reach`.
-#[derive(Drop)]
+#[derive(Clone, Copy)]
 pub struct Tariff {
     pub last: usize,
     pub ends: [u16; MOST_BANDS],

@@ -17,7 +17,7 @@ pub use passed::{BLOCK, bands_of};
 pub use reading::{TariffAnswer, TariffReading, read_tariff};
 
 // What the amounts of a sheet's haul records are: hauls as written, or distances by the house tariff or by one that is given.
-#[derive(Drop)]
+#[derive(Clone, Copy)]
 pub enum TariffChoice {
     NoTariff,
     HouseTariff,

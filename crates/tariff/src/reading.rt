@@ -15,14 +15,14 @@ const MOST_BYTES: usize = Record::LEN * MOST_BANDS;
 const HALF_WORD: u32 = 65536;
 
 // What reading a tariff answers: that it is accepted, or the number of the first question that it fails.
-#[derive(Drop)]
+#[derive(Clone, Copy)]
 pub enum TariffAnswer {
     Accepted,
     Refused(u8),
 }
 
 // The answer, and beside it the tariff; for a refused one a tariff without bands.
-#[derive(Drop)]
+#[derive(Clone, Copy)]
 pub struct TariffReading {
     pub answer: TariffAnswer,
     pub tariff: Tariff,
