@@ -1,0 +1,66 @@
+-- `limited_plan_by` meets its contract: the plan is made on the sheet of hauls, or the refusal handed on.
+use mathlib.Core.Path.{refl, sym}
+use lib.ListN.{length}
+use Rattle.distances.proofs.CallLaws.{part_within, part_length, as_written, as_priced, as_refused, on_written, on_priced, on_refused}
+use Rattle.price.proofs.PricingLaws.{refuses, as_outcome}
+use Rattle.search.specs.Planning.{limited_planning}
+use Rattle.by_tariff.specs.PlanningBy.{limited_planning_by}
+use Rattle.search.specs.Promises.{LimitedPlanSized, LimitedPlanSettled, LimitedPlanBounded}
+use Rattle.by_tariff.proofs.PlanningByLaws.{limited_first}
+use borrow.Author.Rules.{rules}
+use Rattle.by_tariff.proofs.limited_plan_by.Goals as goal
+
+pub slice_bounds-hauls-end : goal.slice_bounds-hauls-end
+slice_bounds-hauls-end c = part_within _ _ c.hauls_by.auto.hauls2 _ _ c.in-Priced.is c.hauls_by.ensures.room
+
+pub slice_bounds-limited_plan-end : goal.slice_bounds-limited_plan-end
+slice_bounds-limited_plan-end c = part_length _ _ c.hauls_by.auto.hauls2 _ _ c.in-Priced.is c.hauls_by.ensures.room _ refl
+
+pub returns-in-AsWritten : goal.returns-in-AsWritten
+unfolding limited_planning_by
+returns-in-AsWritten c = let a = c.args in
+    let planned = c.limited_plan in
+    let next = planned.new.1.1.0 in
+    let told = c.hauls_by.ensures.hauls in
+    let both = as_outcome (as_written _ _ _ _ (search rules) _ _ told (λ h. limited_planning h a.k (length a.area.now)) c.in-AsWritten.is)
+    planned.result _ _ (planned.ensures.0, planned.ensures.1.0) in (
+      both.0,
+      (
+        both.1,
+        (
+          on_written _ _ _ _ (search rules) _ _ told (λ h. LimitedPlanSized h a.k planned.result next) c.in-AsWritten.is planned.ensures.1.1.0,
+          (
+            on_written _ _ _ _ (search rules) _ _ told (λ h. LimitedPlanSettled h planned.result next) c.in-AsWritten.is planned.ensures.1.1.1.0,
+            on_written _ _ _ _ (search rules) _ _ told (λ h. LimitedPlanBounded h a.k planned.result next) c.in-AsWritten.is planned.ensures.1.1.1.1,
+          ),
+        ),
+      ),
+    )
+
+pub returns-in-Priced : goal.returns-in-Priced
+unfolding limited_planning_by
+returns-in-Priced c = let a = c.args in
+    let planned = c.limited_plan-in-Priced in
+    let next = planned.new.1.1.0 in
+    let told = c.hauls_by.ensures.hauls in
+    let both = as_outcome (as_priced _ _ _ _ (search rules) _ _ told (λ h. limited_planning h a.k (length a.area.now)) (limited_first a.k (length a.area.now)) _ c.in-Priced.is)
+    planned.result _ _ (planned.ensures.0, planned.ensures.1.0) in (
+      both.0,
+      (
+        both.1,
+        (
+          on_priced _ _ _ _ (search rules) _ _ told (λ h. LimitedPlanSized h a.k planned.result next) _ c.in-Priced.is planned.ensures.1.1.0,
+          (
+            on_priced _ _ _ _ (search rules) _ _ told (λ h. LimitedPlanSettled h planned.result next) _ c.in-Priced.is planned.ensures.1.1.1.0,
+            on_priced _ _ _ _ (search rules) _ _ told (λ h. LimitedPlanBounded h a.k planned.result next) _ c.in-Priced.is planned.ensures.1.1.1.1,
+          ),
+        ),
+      ),
+    )
+
+pub returns-in-Refused : goal.returns-in-Refused
+unfolding limited_planning_by
+returns-in-Refused c = let a = c.args in
+    let told = c.hauls_by.ensures.hauls in
+    let both = refuses _ a.area.now _ (sym (as_refused _ _ _ _ (search rules) _ _ told (λ h. limited_planning h a.k (length a.area.now)) _ c.in-Refused.is)) in
+    (both.0, (both.1, (on_refused _ _ _ _ (search rules) _ _ told _ _ c.in-Refused.is, (on_refused _ _ _ _ (search rules) _ _ told _ _ c.in-Refused.is, on_refused _ _ _ _ (search rules) _ _ told _ _ c.in-Refused.is))))

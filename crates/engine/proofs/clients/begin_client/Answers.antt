@@ -1,0 +1,14 @@
+-- `clients::begin_client` meets its contract: the two nearest by the set's list are put into the client's places.
+use Rattle.engine.proofs.ClientLaws.{near_put, near_ordered}
+use Rattle.engine.proofs.clients.begin_client.Goals as goal
+
+pub enter-requires : goal.enter-requires
+enter-requires c = let a = c.args in
+    (c.requires.0, c.requires.1, c.requires.2, near_ordered a.m a.service.now a.set a.j c.near_of-near.result c.near_of-near.ensures)
+
+pub returns : goal.returns
+returns c = let answer = c.enter.ensures in
+    let a = c.args in (
+      answer.0,
+      (near_put a.m a.service.now _ _ a.j a.set c.near_of-near.result c.near_of-near.ensures answer.1, answer.1.others),
+    )

@@ -1,0 +1,12 @@
+-- `clients::begin_clients` meets its contract. The invariant: the clients passed stand by the set, of the others nothing is counted.
+use Prim.Native.Nat.{◌≤◌, ◌-◌}
+use mathlib.Core.Path.{◌≡◌}
+use lib.ListN.{length}
+use Rattle.engine.specs.Sums.{Kept, NearUpTo}
+use Rattle.engine.proofs.clients.begin_clients.Given as goal
+
+abbrev pub invariant-loop-j : goal.invariant-loop-j
+invariant-loop-j l = (l.j ≤ l.n) × Kept l.m l.n l.service l.kept × NearUpTo l.m l.n l.service l.kept l.set l.j × (length l.kept ≡ length l.initial.kept)
+
+abbrev pub decreases-loop-j : goal.decreases-loop-j
+decreases-loop-j l = l.n - l.j

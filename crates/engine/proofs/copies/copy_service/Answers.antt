@@ -1,0 +1,42 @@
+use mathlib.Core.Path.{◌≡◌, refl}
+use Prim.Native.Nat.{◌-◌}
+use native.Mathlib.Nat.{not-suc-le-zero}
+use native.Mathlib.Omega.{arith}
+use lib.ListN.{get_or, length-set}
+use Rattle.model.proofs.PlaceLaws.{front_more}
+use Rattle.engine.proofs.CopiedTableLaws.{behind_more}
+use Rattle.engine.proofs.copies.copy_service.Goals as goal
+
+pub loop-i-init : goal.loop-i-init
+loop-i-init c = (omega arith, refl, λ k l. absurd (not-suc-le-zero l), λ k l. refl)
+
+pub offset_bounds-from-i : goal.offset_bounds-from-i
+offset_bounds-from-i c = omega arith
+
+pub bounds-from-i : goal.bounds-from-i
+bounds-from-i c = omega arith
+
+pub offset_bounds-table-i : goal.offset_bounds-table-i
+offset_bounds-table-i c = omega arith
+
+pub bounds-table-i : goal.bounds-table-i
+bounds-table-i c = omega arith
+
+pub overflow_add-i : goal.overflow_add-i
+overflow_add-i c = omega arith
+
+pub loop-i-smaller : goal.loop-i-smaller
+loop-i-smaller c = omega arith
+
+pub loop-i-preserved : goal.loop-i-preserved
+loop-i-preserved c = let l = c.loop-i in (
+  omega arith,
+  simp length-set l.invariant.1,
+  front_more (λ k. get_or c.args.from.now k 0) l.i _ l.table (omega arith) refl l.invariant.2,
+  behind_more l.i _ c.args.table.now l.table l.invariant.3,
+)
+
+pub returns : goal.returns
+returns c = let l = c.loop-i in
+    let e : l.i ≡ c.args.count = omega arith in
+    (rw e at l.invariant.2, rw e at l.invariant.3)

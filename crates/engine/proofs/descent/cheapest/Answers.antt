@@ -1,0 +1,65 @@
+use Prim.Native.Nat.{◌-◌}
+use native.Mathlib.Omega.{arith}
+use mathlib.Core.Path.{◌≡◌, refl}
+use Rattle.engine.proofs.DescentLaws.{cheapest_all}
+use Rattle.engine.proofs.descent.SingleFacilityLaws.{alone_fits, alone_first, alone_more}
+use Rattle.engine.proofs.descent.cheapest.Goals as goal
+
+pub bounds-opening-0 : goal.bounds-opening-0
+bounds-opening-0 c = omega (arith, c.requires.1.room)
+
+pub bounds-kept-256 : goal.bounds-kept-256
+bounds-kept-256 c = omega (arith, c.requires.3)
+
+pub overflow_add-b : goal.overflow_add-b
+overflow_add-b c = let a = c.args in
+    let pre = c.requires in
+    record { fits = alone_fits a.m a.n a.opening.now a.service.now a.kept.now pre.0 pre.4 pre.1 0 (omega (arith, pre.2)) }
+
+pub loop-i-init : goal.loop-i-init
+loop-i-init c = let a = c.args in
+    let pre = c.requires in
+    (omega arith, pre.2, alone_first a.m a.n a.opening.now a.service.now a.kept.now pre.0 pre.4 _ (omega (arith, pre.2)) refl)
+
+pub offset_bounds-opening-i : goal.offset_bounds-opening-i
+offset_bounds-opening-i c = omega (arith, c.requires.0.few_facilities)
+
+pub bounds-opening-i : goal.bounds-opening-i
+bounds-opening-i c = let pre = c.requires in omega (arith, pre.0.few_facilities, pre.1.room)
+
+pub overflow_add-i : goal.overflow_add-i
+overflow_add-i c = omega (arith, c.requires.0.few_facilities)
+
+pub offset_bounds-kept-i : goal.offset_bounds-kept-i
+offset_bounds-kept-i c = omega (arith, c.requires.0.few_facilities)
+
+pub bounds-kept-i : goal.bounds-kept-i
+bounds-kept-i c = let pre = c.requires in omega (arith, pre.0.few_facilities, pre.3)
+
+pub overflow_add-opening : goal.overflow_add-opening
+overflow_add-opening c = let a = c.args in
+    let pre = c.requires in
+    record {
+      fits =
+          alone_fits a.m a.n a.opening.now a.service.now a.kept.now pre.0 pre.4 pre.1 c.loop-i.i (omega arith);
+    }
+
+pub overflow_add-i-in-loop-i : goal.overflow_add-i-in-loop-i
+overflow_add-i-in-loop-i c = omega arith
+
+pub loop-i-smaller : goal.loop-i-smaller
+loop-i-smaller c = omega arith
+
+pub loop-i-preserved : goal.loop-i-preserved
+loop-i-preserved c = let l = c.loop-i in
+    let a = c.args in
+    let pre = c.requires in (
+      omega arith,
+      omega arith,
+      alone_more a.m a.n a.opening.now a.service.now a.kept.now pre.0 pre.4 l.i _ _ l.b _ l.invariant.0 (omega arith) l.invariant.2
+          c.added.ensures refl c.better_of-b.ensures,
+    )
+
+pub returns : goal.returns
+returns c = let e : c.loop-i.i ≡ c.args.m = omega arith in
+    cheapest_all _ _ _ _ _ (rw e at c.loop-i.invariant.2)

@@ -1,0 +1,39 @@
+use Prim.Native.Nat.{◌-◌}
+use native.Mathlib.Omega.{arith}
+use mathlib.Core.Path.{◌≡◌, sym, ◌∙◌}
+use mathlib.Core.Logic.{⊎_elim}
+use Rattle.model.proofs.Bools.{said_no, said_yes}
+use Rattle.model.proofs.LoopLaws.{leading_none, leading_more, leading_stops}
+use Rattle.engine.specs.Near.{new_in}
+use Rattle.engine.proofs.MovedLaws.{old, new_stops, old_in, old_out}
+use Rattle.engine.proofs.near.newcomer.Goals as goal
+
+pub loop-i-init : goal.loop-i-init
+loop-i-init c = (omega arith, leading_none _)
+
+pub returns-then-not-has : goal.returns-then-not-has
+unfolding new_in
+returns-then-not-has c = let l = c.loop-i in
+    let a = c.args in
+    sym (leading_stops (old a.before a.after) 32 l.i l.invariant.1 c.loop-i-test.true
+    (new_stops a.before a.after l.i (sym c.has.ensures ∙ c.if-has.true) (said_no c.has-then-has.ensures c.if-not-has.true)))
+
+pub overflow_add-i : goal.overflow_add-i
+overflow_add-i c = omega arith
+
+pub loop-i-smaller : goal.loop-i-smaller
+loop-i-smaller c = omega arith
+
+pub loop-i-preserved : goal.loop-i-preserved
+loop-i-preserved c = let l = c.loop-i in
+    let a = c.args in
+    let passes =
+    ⊎_elim (λ w. old_in a.before a.after l.i (said_yes w.1.ensures w.2.left))
+    (λ w. old_out a.before a.after l.i (sym c.has.ensures ∙ w.left)) c.else-has.branch
+    in
+    (omega arith, leading_more (old a.before a.after) l.i l.invariant.1 passes)
+
+pub returns : goal.returns
+unfolding new_in
+returns c = let e : c.loop-i.i ≡ 32 = omega arith in
+    sym (rw e at c.loop-i.invariant.1)

@@ -1,0 +1,25 @@
+-- `planner_limited_plan_by` meets its contract: `by_tariff::limited_plan_by` does, and its answers keep to their bits.
+use mathlib.Core.Path.{sym, ap, subst, ◌∙◌}
+use Rattle.search.specs.Promises.{OfSize, NoLimitedMove, BoundedByRivalsOf}
+use Rattle.numbers.specs.Numbers.{result_number, KeepsBits}
+use Rattle.exports.proofs.NumberByLaws.{limited_by_within, of_written_by}
+use Rattle.exports.proofs.planner_limited_plan_by.Goals as goal
+
+pub returns : goal.returns
+returns c = let planned = c.limited_plan_by-limited_plan in
+    let k = c.args.k in
+    let area = planned.new.1.1.1.1.0 in
+    let bits = subst KeepsBits (sym planned.ensures.0) (limited_by_within _ _ _ _ _) in
+    rw (← c.choice_of.ensures) (
+      c.plan_number.ensures ∙ ap result_number planned.ensures.0,
+      (
+        planned.ensures.1.0,
+        (
+          of_written_by _ _ _ _ area (λ h. OfSize h k) planned.result bits c.plan_number.ensures planned.ensures.1.1.0,
+          (
+            of_written_by _ _ _ _ area NoLimitedMove planned.result bits c.plan_number.ensures planned.ensures.1.1.1.0,
+            of_written_by _ _ _ _ area (λ h. BoundedByRivalsOf h k) planned.result bits c.plan_number.ensures planned.ensures.1.1.1.1,
+          ),
+        ),
+      ),
+    )

@@ -1,0 +1,21 @@
+-- `planner_open_plan_by` meets its contract: `by_tariff::open_plan_by` does, and its answers keep to their bits.
+use mathlib.Core.Path.{sym, ap, subst, ◌∙◌}
+use Rattle.search.specs.Promises.{NoOpenMove, BoundedByRivals}
+use Rattle.numbers.specs.Numbers.{result_number, KeepsBits}
+use Rattle.exports.proofs.NumberByLaws.{open_by_within, of_written_by}
+use Rattle.exports.proofs.planner_open_plan_by.Goals as goal
+
+pub returns : goal.returns
+returns c = let planned = c.open_plan_by-open_plan in
+    let area = planned.new.1.1.1.0 in
+    let bits = subst KeepsBits (sym planned.ensures.0) (open_by_within _ _ _ _) in
+    rw (← c.choice_of.ensures) (
+      c.plan_number.ensures ∙ ap result_number planned.ensures.0,
+      (
+        planned.ensures.1.0,
+        (
+          of_written_by _ _ _ _ area NoOpenMove planned.result bits c.plan_number.ensures planned.ensures.1.1.0,
+          of_written_by _ _ _ _ area BoundedByRivals planned.result bits c.plan_number.ensures planned.ensures.1.1.1,
+        ),
+      ),
+    )

@@ -1,0 +1,18 @@
+-- `planner_price_by` meets its contract: `price_by::price_by` does, and its answers keep to their bits.
+use mathlib.Core.Path.{◌≡◌, sym, ap, subst, ◌∙◌}
+use Rattle.numbers.specs.Numbers.{result_number, KeepsBits}
+use Rattle.numbers.proofs.SaidLaws.{of_written}
+use Rattle.exports.proofs.NumberByLaws.{pricing_by_within}
+use Rattle.exports.proofs.planner_price_by.Goals as goal
+
+pub returns : goal.returns
+returns c = let priced = c.price_by-priced in
+    let a = c.args in
+    let bits = subst KeepsBits (sym priced.ensures.0) (pricing_by_within _ _ _ _ _) in
+    rw (← c.choice_of.ensures) (
+      c.plan_number.ensures ∙ ap result_number priced.ensures.0,
+      (
+        priced.ensures.1.0,
+        of_written _ priced.new.1.1.1.1.0 (λ kept. kept ≡ a.set) priced.result bits c.plan_number.ensures priced.ensures.1.1,
+      ),
+    )

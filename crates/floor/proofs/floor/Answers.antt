@@ -1,0 +1,42 @@
+-- `floor` meets its contract: each arm is a case of `offering`.
+use native.Mathlib.Omega.{arith}
+use mathlib.Core.Path.{sym, ap, ◌∙◌}
+use Rattle.model.proofs.Bools.{said_no, said_yes}
+use Rattle.questions.specs.Reading.{reading_answer}
+use Rattle.questions.proofs.AcceptedLaws.{accepts, shape_of}
+use Rattle.floor.proofs.OfferedLaws.{offered_none, covered}
+use Rattle.floor.proofs.OfferingLaws.{long_enough, unread, broken, overbids, told, answers}
+use Rattle.floor.proofs.floor.Goals as goal
+
+pub offers_good-requires : goal.offers_good-requires
+offers_good-requires c = (accepts _ _ _ (sym c.read.ensures ∙ ap reading_answer c.in-Accepted.is)).has.few_farms
+
+pub returns-then-not-offers_good : goal.returns-then-not-offers_good
+returns-then-not-offers_good c = let e = sym c.read.ensures ∙ ap reading_answer c.in-Accepted.is in
+    answers _ _ _ (broken _ _ _ _ e (said_no c.offers_good.ensures c.if-not-offers_good.true))
+
+pub add_offers-sum-requires : goal.add_offers-sum-requires
+add_offers-sum-requires c = let shape = shape_of (accepts _ _ _ (sym c.read.ensures ∙ ap reading_answer c.in-Accepted.is)).has in
+    let a = c.args in (
+      shape,
+      long_enough _ _ (said_yes c.offers_good.ensures c.if-not-offers_good.false),
+      shape.few_yards,
+      offered_none a.sheet.now _ a.offers.now 32,
+    )
+
+pub fees_cover-requires : goal.fees_cover-requires
+fees_cover-requires c = let shape = shape_of (accepts _ _ _ (sym c.read.ensures ∙ ap reading_answer c.in-Accepted.is)).has in
+    (omega (arith, shape.room), omega (arith, shape.few_yards, c.add_offers-sum.auto.excess2))
+
+pub returns-then-not-fees_cover : goal.returns-then-not-fees_cover
+returns-then-not-fees_cover c = let e = sym c.read.ensures ∙ ap reading_answer c.in-Accepted.is in
+    let in_place = said_yes c.offers_good.ensures c.if-not-offers_good.false in
+    answers _ _ _ (overbids _ _ _ _ e in_place (said_no (c.fees_cover.ensures ∙ covered _ _ _ _ _ c.add_offers-sum.ensures.excess) c.if-not-fees_cover.true))
+
+pub returns-else-not-fees_cover : goal.returns-else-not-fees_cover
+returns-else-not-fees_cover c = let e = sym c.read.ensures ∙ ap reading_answer c.in-Accepted.is in
+    let in_place = said_yes c.offers_good.ensures c.if-not-offers_good.false in
+    answers _ _ _ (told _ _ _ _ e in_place (said_yes (c.fees_cover.ensures ∙ covered _ _ _ _ _ c.add_offers-sum.ensures.excess) c.if-not-fees_cover.false) _ c.add_offers-sum.ensures.sum)
+
+pub returns-in-Refused : goal.returns-in-Refused
+returns-in-Refused c = answers _ _ _ (unread _ _ _ (sym c.read.ensures ∙ ap reading_answer c.in-Refused.is))
