@@ -8,7 +8,7 @@ use Rattle.distances.proofs.CallLaws.{enough_room, short_room}
 use Rattle.distances.proofs.hauls_by.Goals as goal
 
 pub returns-then-hauls-lt-MOST_BYTES : goal.returns-then-hauls-lt-MOST_BYTES
-returns-then-hauls-lt-MOST_BYTES c = (sym (short_room _ _ _ _ c.if-hauls-lt-MOST_BYTES.true), tt)
+returns-then-hauls-lt-MOST_BYTES c = record { hauls = sym (short_room _ _ _ _ c.if-hauls-lt-MOST_BYTES.true); room = tt }
 
 pub price_into-requires : goal.price_into-requires
 price_into-requires c = (c.if-hauls-lt-MOST_BYTES.false, prices_fit house _ c.house_tariff.ensures.prices)
@@ -18,22 +18,18 @@ price_given-requires c = c.if-hauls-lt-MOST_BYTES.false
 
 pub returns-in-NoTariff : goal.returns-in-NoTariff
 unfolding sheet_by
-returns-in-NoTariff c = let a = c.args in
-    (ap (λ by. sheet_by by a.tariff.now a.sheet.now) (sym c.in-NoTariff.is) ∙ sym (enough_room _ _ _ _ c.if-hauls-lt-MOST_BYTES.false), tt)
+returns-in-NoTariff c = let a = c.args in record { hauls = ap (λ by. sheet_by by a.tariff.now a.sheet.now) (sym c.in-NoTariff.is) ∙ sym (enough_room _ _ _ _ c.if-hauls-lt-MOST_BYTES.false); room = tt }
 
 pub returns-in-HouseTariff : goal.returns-in-HouseTariff
 unfolding sheet_by
 returns-in-HouseTariff c = let priced = c.price_into in
-    let a = c.args in (
-      priced.ensures.0 ∙ priced_as house _ _ c.house_tariff.ensures.prices ∙ ap (λ by. sheet_by by a.tariff.now a.sheet.now) (sym c.in-HouseTariff.is)
-          ∙ sym (enough_room _ _ _ _ c.if-hauls-lt-MOST_BYTES.false),
-      priced.ensures.1,
-    )
+    let a = c.args in record {
+      hauls = priced.ensures.hauls ∙ priced_as house _ _ c.house_tariff.ensures.prices ∙ ap (λ by. sheet_by by a.tariff.now a.sheet.now) (sym c.in-HouseTariff.is)
+          ∙ sym (enough_room _ _ _ _ c.if-hauls-lt-MOST_BYTES.false);
+      room = priced.ensures.room;
+    }
 
 pub returns-in-GivenTariff : goal.returns-in-GivenTariff
 unfolding sheet_by
 returns-in-GivenTariff c = let priced = c.price_given in
-    let a = c.args in (
-      priced.ensures.0 ∙ ap (λ by. sheet_by by a.tariff.now a.sheet.now) (sym c.in-GivenTariff.is) ∙ sym (enough_room _ _ _ _ c.if-hauls-lt-MOST_BYTES.false),
-      priced.ensures.1,
-    )
+    let a = c.args in record { hauls = priced.ensures.hauls ∙ ap (λ by. sheet_by by a.tariff.now a.sheet.now) (sym c.in-GivenTariff.is) ∙ sym (enough_room _ _ _ _ c.if-hauls-lt-MOST_BYTES.false); room = priced.ensures.room }

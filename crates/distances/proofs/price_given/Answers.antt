@@ -13,9 +13,8 @@ price_into-requires c = let given = read_accepted (tariff_reading c.args.tariff.
 pub returns-in-Accepted : goal.returns-in-Accepted
 unfolding under_given
 returns-in-Accepted c = let given = read_accepted (tariff_reading c.args.tariff.now) _ c.read_tariff-given.ensures c.in-Accepted.is in
-    let priced = c.price_into in
-    (rw given.1 (priced.ensures.0 ∙ priced_as _ _ _ given.2), priced.ensures.1)
+    let priced = c.price_into in record { hauls = rw given.1 (priced.ensures.hauls ∙ priced_as _ _ _ given.2); room = priced.ensures.room }
 
 pub returns-in-Refused : goal.returns-in-Refused
 unfolding under_given
-returns-in-Refused c = (rw (read_refused (tariff_reading c.args.tariff.now) _ _ c.read_tariff-given.ensures c.in-Refused.is), tt)
+returns-in-Refused c = record { hauls = rw (read_refused (tariff_reading c.args.tariff.now) _ _ c.read_tariff-given.ensures c.in-Refused.is); room = tt }

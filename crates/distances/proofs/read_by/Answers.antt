@@ -15,14 +15,14 @@ slice_bounds-read-end c = part_length _ _ c.hauls_by.auto.hauls2 _ _ c.in-Priced
 pub returns-in-AsWritten : goal.returns-in-AsWritten
 unfolding reading_by
 returns-in-AsWritten c = let made = c.hauls_by in
-    c.read.ensures ∙ as_written _ _ _ _ (search rules) _ _ made.ensures.0 reading c.in-AsWritten.is
+    c.read.ensures ∙ as_written _ _ _ _ (search rules) _ _ made.ensures.hauls reading c.in-AsWritten.is
 
 pub returns-in-Priced : goal.returns-in-Priced
 unfolding reading_by
 returns-in-Priced c = let made = c.hauls_by in
-    c.read-in-Priced.ensures ∙ as_priced _ _ _ _ (search rules) _ _ made.ensures.0 reading reading_first _ c.in-Priced.is
+    c.read-in-Priced.ensures ∙ as_priced _ _ _ _ (search rules) _ _ made.ensures.hauls reading reading_first _ c.in-Priced.is
 
 pub returns-in-Refused : goal.returns-in-Refused
 unfolding reading_by
 returns-in-Refused c = let made = c.hauls_by in
-    as_refused _ _ _ _ (search rules) _ _ made.ensures.0 reading _ c.in-Refused.is
+    as_refused _ _ _ _ (search rules) _ _ made.ensures.hauls reading _ c.in-Refused.is

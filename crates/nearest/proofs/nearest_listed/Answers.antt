@@ -13,7 +13,7 @@ loop-t-smaller c = omega arith
 pub loop-t-preserved : goal.loop-t-preserved
 loop-t-preserved c = let chosen = c.choice_of in
     let a = c.args in
-    let more = next_listed a.fees.now a.hauls.now a.yards.now c.loop-t.t _ _ _ chosen.ensures.1.0 chosen.ensures.0 chosen.ensures.1.1 c.nearer_of-best.ensures c.loop-t.invariant.1 in
+    let more = next_listed a.fees.now a.hauls.now a.yards.now c.loop-t.t _ _ _ chosen.ensures.small.0 chosen.ensures.choice chosen.ensures.small.1 c.nearer_of-best.ensures c.loop-t.invariant.1 in
     (omega arith, more)
 
 pub returns-then-best-eq-NO_YARD : goal.returns-then-best-eq-NO_YARD

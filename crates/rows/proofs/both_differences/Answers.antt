@@ -46,10 +46,9 @@ loop-i-preserved c = let a = c.args in
       front_more (above_at a.costs.now a.first) l.i _ l.whole (omega arith)
           (above_taken a.costs.now a.first l.i _ c.over-over_first.ensures) l.invariant.3,
       front_more (between_at a.costs.now a.first a.second) l.i _ l.part (omega arith)
-          (between_taken a.costs.now a.first a.second l.i _ _ _ c.over-over_first.ensures c.over.ensures (search rules) (search rules) c.wrapping_sub_u32.ensures) l.invariant.4,
+          (between_taken a.costs.now a.first a.second l.i _ _ _ c.over-over_first.ensures c.over.ensures (search rules) (search rules) c.wrapping_sub_u32.ensures.value) l.invariant.4,
     )
 
 pub returns : goal.returns
 returns c = let l = c.loop-i in
-    let e : l.i ≡ 32 = omega arith in
-    (rw e at l.invariant.3, rw e at l.invariant.4)
+    let e : l.i ≡ 32 = omega arith in record { whole = rw e at l.invariant.3; part = rw e at l.invariant.4 }

@@ -31,7 +31,7 @@ loop-i-preserved c = let a = c.args in
       omega arith,
       simp length-set l.invariant.1,
       front_more (between_at a.costs.now a.low a.high) l.i _ l.by (omega arith)
-          (between_taken a.costs.now a.low a.high l.i _ _ _ c.over.ensures c.over-in-loop-i.ensures (search rules) (search rules) c.wrapping_sub_u32.ensures) l.invariant.2,
+          (between_taken a.costs.now a.low a.high l.i _ _ _ c.over.ensures c.over-in-loop-i.ensures (search rules) (search rules) c.wrapping_sub_u32.ensures.value) l.invariant.2,
     )
 
 pub returns : goal.returns

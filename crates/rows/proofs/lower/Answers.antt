@@ -52,7 +52,7 @@ loop-i-preserved c = let a = c.args in
     let taken = d.ensures l.i c.loop-i-test.true in (
       omega arith,
       simp length-set l.invariant.1,
-      change_more (fall by) a.at l.i _ a.sums.now l.sums l.invariant.2 (wrapped_fall by l.i _ _ _ taken (omega (arith, taken, between_at_small a.costs.now a.low a.high l.i)) (search rules) c.wrapping_sub_u64.ensures),
+      change_more (fall by) a.at l.i _ a.sums.now l.sums l.invariant.2 (wrapped_fall by l.i _ _ _ taken (omega (arith, taken, between_at_small a.costs.now a.low a.high l.i)) (search rules) c.wrapping_sub_u64.ensures.value),
     )
 
 pub returns : goal.returns

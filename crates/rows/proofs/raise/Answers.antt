@@ -52,7 +52,7 @@ loop-i-preserved c = let a = c.args in
     let taken = d.ensures l.i c.loop-i-test.true in (
       omega arith,
       simp length-set l.invariant.1,
-      change_more (rise by) a.at l.i _ a.sums.now l.sums l.invariant.2 (wrapped_rise by l.i _ _ _ taken c.wrapping_add_u64.ensures),
+      change_more (rise by) a.at l.i _ a.sums.now l.sums l.invariant.2 (wrapped_rise by l.i _ _ _ taken c.wrapping_add_u64.ensures.value),
     )
 
 pub returns : goal.returns

@@ -38,7 +38,7 @@ pub overflow_cast-whole : goal.overflow_cast-whole
 overflow_cast-whole c = let a = c.args in
     let d = c.both_differences in
     let l = c.loop-i in
-    omega (arith, d.ensures.0 l.i c.loop-i-test.true, above_at_small a.costs.now a.first l.i)
+    omega (arith, d.ensures.whole l.i c.loop-i-test.true, above_at_small a.costs.now a.first l.i)
 
 pub overflow_add-sums : goal.overflow_add-sums
 overflow_add-sums c = omega arith
@@ -60,12 +60,12 @@ loop-i-preserved c = let a = c.args in
     let d = c.both_differences in
     let l = c.loop-i in
     let by = above_at a.costs.now a.first in
-    let taken = d.ensures.0 l.i c.loop-i-test.true in (
+    let taken = d.ensures.whole l.i c.loop-i-test.true in (
       omega arith,
       l.invariant.1,
       l.invariant.2,
       simp length-set l.invariant.3,
-      change_more (fall by) a.added l.i _ a.sums.now l.sums l.invariant.4 (wrapped_fall by l.i _ _ _ taken (omega (arith, taken, above_at_small a.costs.now a.first l.i)) (search rules) c.wrapping_sub_u64.ensures),
+      change_more (fall by) a.added l.i _ a.sums.now l.sums l.invariant.4 (wrapped_fall by l.i _ _ _ taken (omega (arith, taken, above_at_small a.costs.now a.first l.i)) (search rules) c.wrapping_sub_u64.ensures.value),
     )
 
 pub loop-k-init : goal.loop-k-init
@@ -87,7 +87,7 @@ pub overflow_cast-part : goal.overflow_cast-part
 overflow_cast-part c = let a = c.args in
     let d = c.both_differences in
     let l2 = c.loop-k in
-    omega (arith, d.ensures.1 l2.k c.loop-k-test.true, between_at_small a.costs.now a.first a.second l2.k)
+    omega (arith, d.ensures.part l2.k c.loop-k-test.true, between_at_small a.costs.now a.first a.second l2.k)
 
 pub overflow_add-sums-in-loop-k : goal.overflow_add-sums-in-loop-k
 overflow_add-sums-in-loop-k c = omega arith
@@ -110,11 +110,11 @@ loop-k-preserved c = let a = c.args in
     let l = c.loop-i in
     let l2 = c.loop-k in
     let by = between_at a.costs.now a.first a.second in
-    let taken = d.ensures.1 l2.k c.loop-k-test.true in (
+    let taken = d.ensures.part l2.k c.loop-k-test.true in (
       omega arith,
       l2.invariant.1,
       simp length-set l2.invariant.2,
-      change_more (rise by) a.more l2.k _ l.sums l2.sums l2.invariant.3 (wrapped_rise by l2.k _ _ _ taken c.wrapping_add_u64.ensures),
+      change_more (rise by) a.more l2.k _ l.sums l2.sums l2.invariant.3 (wrapped_rise by l2.k _ _ _ taken c.wrapping_add_u64.ensures.value),
     )
 
 pub returns : goal.returns

@@ -12,7 +12,7 @@ pub take_distances-requires : goal.take_distances-requires
 take_distances-requires c = (omega arith, c.requires.1)
 
 pub returns-then-not-take_distances : goal.returns-then-not-take_distances
-returns-then-not-take_distances c = (sym (said_no c.take_distances.ensures.within c.if-not-take_distances.true), λ yes. clash yes refl)
+returns-then-not-take_distances c = record { within = sym (said_no c.take_distances.ensures.within c.if-not-take_distances.true); area = λ yes. clash yes refl }
 
 pub put_block-requires : goal.put_block-requires
 put_block-requires c = let found = c.bands_of-bands in
@@ -25,9 +25,8 @@ put_block-requires c = let found = c.bands_of-bands in
       omega (arith, c.requires.0),
       c.requires.3,
       all_taken a.by a.sheet.now a.from a.count took.new.1.1.1.1.0 found.result c.requires.0
-          (took.ensures.1 c.if-not-take_distances.false) (said_yes took.ensures.0 c.if-not-take_distances.false) found.ensures,
+          (took.ensures.taken c.if-not-take_distances.false) (said_yes took.ensures.within c.if-not-take_distances.false) found.ensures,
     )
 
 pub returns : goal.returns
-returns c = let took = c.take_distances in
-    (sym (said_yes took.ensures.0 c.if-not-take_distances.false), λ yes. c.put_block.ensures)
+returns c = let took = c.take_distances in record { within = sym (said_yes took.ensures.within c.if-not-take_distances.false); area = λ yes. c.put_block.ensures }

@@ -12,10 +12,10 @@ use Rattle.distances.proofs.ReachLaws.{refuses_1, form_refuses, refuses_13, pric
 use Rattle.distances.proofs.priced.price_into.Goals as goal
 
 pub returns-then-sheet-ne0 : goal.returns-then-sheet-ne0
-returns-then-sheet-ne0 c = (sym (refuses_1 _ _ _ (odd_length _ c.if-sheet-ne0.true)), tt)
+returns-then-sheet-ne0 c = record { hauls = sym (refuses_1 _ _ _ (odd_length _ c.if-sheet-ne0.true)); room = tt }
 
 pub returns-then-sheet-gt-MOST_BYTES : goal.returns-then-sheet-gt-MOST_BYTES
-returns-then-sheet-gt-MOST_BYTES c = (sym (refuses_1 _ _ _ (too_long _ c.if-sheet-gt-MOST_BYTES.true)), tt)
+returns-then-sheet-gt-MOST_BYTES c = record { hauls = sym (refuses_1 _ _ _ (too_long _ c.if-sheet-gt-MOST_BYTES.true)); room = tt }
 
 pub price_all-requires : goal.price_all-requires
 price_all-requires c = (c.if-sheet-ne0.false, c.if-sheet-gt-MOST_BYTES.false, c.requires.0, c.requires.1)
@@ -25,15 +25,14 @@ unfolding priced_sheet
 returns-then-price_all c = let put = c.price_all in
     let s = c.args.sheet.now in
     let f = price_of c.args.by in
-    let whole : length s ≡ 8 * records s = omega (arith, c.if-sheet-ne0.false) in (
-      ap formed (front_is f c.args.by.reach s c.args.hauls.now _ whole (put.ensures.1 c.if-price_all.true))
-          ∙ priced_told f c.args.by.reach s whole (λ i. omega (arith, c.shared_slice_known-1.given i)) c.requires.1 (sym put.ensures.0 ∙ c.if-price_all.true),
-      omega (arith, c.if-sheet-gt-MOST_BYTES.false, c.requires.0),
-    )
+    let whole : length s ≡ 8 * records s = omega (arith, c.if-sheet-ne0.false) in record {
+      hauls = ap formed (front_is f c.args.by.reach s c.args.hauls.now _ whole (put.ensures.area c.if-price_all.true))
+          ∙ priced_told f c.args.by.reach s whole (λ i. omega (arith, c.shared_slice_known-1.given i)) c.requires.1 (sym put.ensures.within ∙ c.if-price_all.true);
+      room = omega (arith, c.if-sheet-gt-MOST_BYTES.false, c.requires.0);
+    }
 
 pub returns-in-Accepted : goal.returns-in-Accepted
-returns-in-Accepted c = let s = c.args.sheet.now in
-    (sym (refuses_13 _ _ _ _ _ (sym c.form_and_loads_of.ensures ∙ ap reading_answer c.in-Accepted.is) (sym c.price_all.ensures.within ∙ c.if-price_all.false)), tt)
+returns-in-Accepted c = let s = c.args.sheet.now in record { hauls = sym (refuses_13 _ _ _ _ _ (sym c.form_and_loads_of.ensures ∙ ap reading_answer c.in-Accepted.is) (sym c.price_all.ensures.within ∙ c.if-price_all.false)); room = tt }
 
 pub returns-in-Refused : goal.returns-in-Refused
-returns-in-Refused c = (sym (form_refuses _ _ _ _ (sym c.form_and_loads_of.ensures ∙ ap reading_answer c.in-Refused.is)), tt)
+returns-in-Refused c = record { hauls = sym (form_refuses _ _ _ _ (sym c.form_and_loads_of.ensures ∙ ap reading_answer c.in-Refused.is)); room = tt }

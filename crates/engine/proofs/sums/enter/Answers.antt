@@ -40,9 +40,9 @@ bounds-kept-j-2 c = simp length-set (omega (arith, c.requires.0.room, c.requires
 pub returns : goal.returns
 returns c = let a = c.args in
     let near = a.near in
-    let shifted = enter_shifted c.requires.0 c.args.j c.requires.1 near.first near.second c.requires.3.ordered c.requires.3.within c.requires.2 _ c.shift_in.ensures in (
-      enter_kept c.requires.0 a.j c.requires.1 near.first near.second c.requires.3.ordered c.requires.3.within c.requires.2 _
-          shifted (omega arith),
-      enter_put c.requires.0 a.j c.requires.1 near.first near.second c.requires.3.ordered c.requires.3.within c.requires.2 _
-          shifted (omega arith),
-    )
+    let shifted = enter_shifted c.requires.0 c.args.j c.requires.1 near.first near.second c.requires.3.ordered c.requires.3.within c.requires.2 _ c.shift_in.ensures in record {
+      kept = enter_kept c.requires.0 a.j c.requires.1 near.first near.second c.requires.3.ordered c.requires.3.within c.requires.2 _
+          shifted (omega arith);
+      put = enter_put c.requires.0 a.j c.requires.1 near.first near.second c.requires.3.ordered c.requires.3.within c.requires.2 _
+          shifted (omega arith);
+    }

@@ -12,14 +12,14 @@ loop-yard-init c = let long = hauls_long _ _ _ _ c.requires.0 c.requires.3 _ c.f
     (omega arith, omega arith, refl, record { changed = λ k l. absurd (not-suc-le-zero l); still = λ k l b. c.requires.4 k b })
 
 pub overflow_mul-excess : goal.overflow_mul-excess
-overflow_mul-excess c = let small = loads_small _ _ c.above.result c.loads_of-loads.ensures (omega (arith, c.at.type-inv)) (omega (arith, c.above.type-inv)) in
+overflow_mul-excess c = let small = loads_small _ _ c.above.result c.loads_of-loads.ensures (omega (arith, c.at.type_inv)) (omega (arith, c.above.type_inv)) in
     record { fits = lt_of_le_of_lt small (omega arith) }
 
 pub bounds-excess-yard : goal.bounds-excess-yard
 bounds-excess-yard c = omega arith
 
 pub overflow_add-excess : goal.overflow_add-excess
-overflow_add-excess c = let small = loads_small _ _ c.above.result c.loads_of-loads.ensures (omega (arith, c.at.type-inv)) (omega (arith, c.above.type-inv)) in
+overflow_add-excess c = let small = loads_small _ _ c.above.result c.loads_of-loads.ensures (omega (arith, c.at.type_inv)) (omega (arith, c.above.type_inv)) in
     let so_far = (c.loop-yard.invariant.3.still c.loop-yard.yard (omega arith) (omega arith)).1 in
     record { fits = omega (arith, small, so_far, c.requires.0.few_farms, c.requires.3) }
 
@@ -32,7 +32,7 @@ loop-yard-smaller c = omega arith
 pub loop-yard-preserved : goal.loop-yard-preserved
 loop-yard-preserved c = let l = c.loop-yard in
     let inside = c.loop-yard-test.true in
-    let small = loads_small _ _ c.above.result c.loads_of-loads.ensures (omega (arith, c.at.type-inv)) (omega (arith, c.above.type-inv)) in
+    let small = loads_small _ _ c.above.result c.loads_of-loads.ensures (omega (arith, c.at.type_inv)) (omega (arith, c.above.type_inv)) in
     let is = offer_is _ _ _ _ _ c.requires.0 c.requires.1 c.requires.3 _ c.farm_stretch-hauls.ensures _ c.at.ensures _ c.loads_of-loads.ensures _ c.at-amount.ensures
     l.yard _ _ inside refl c.at-haul.ensures _ c.above.ensures in (
       omega (arith, inside),
@@ -42,13 +42,10 @@ loop-yard-preserved c = let l = c.loop-yard in
     )
 
 pub overflow_mul-result : goal.overflow_mul-result
-overflow_mul-result c = let small = loads_small _ _ c.at-amount.result.amount c.loads_of-loads.ensures (omega (arith, c.at.type-inv)) (omega (arith, c.at-amount.type-inv)) in
+overflow_mul-result c = let small = loads_small _ _ c.at-amount.result.amount c.loads_of-loads.ensures (omega (arith, c.at.type_inv)) (omega (arith, c.at-amount.type_inv)) in
     record { fits = lt_of_le_of_lt small (omega arith) }
 
 pub returns : goal.returns
 returns c = let l = c.loop-yard in
     let e : l.yard ≡ c.args.m = omega arith in
-    let small = loads_small _ _ c.at-amount.result.amount c.loads_of-loads.ensures (omega (arith, c.at.type-inv)) (omega (arith, c.at-amount.type-inv)) in (
-      sum_is _ _ _ _ _ c.requires.0 c.requires.1 c.requires.3 _ c.farm_stretch-hauls.ensures _ c.at.ensures _ c.loads_of-loads.ensures _ c.at-amount.ensures,
-      (small, (λ i below. l.invariant.3.changed i (omega arith))),
-    )
+    let small = loads_small _ _ c.at-amount.result.amount c.loads_of-loads.ensures (omega (arith, c.at.type_inv)) (omega (arith, c.at-amount.type_inv)) in record { sum = sum_is _ _ _ _ _ c.requires.0 c.requires.1 c.requires.3 _ c.farm_stretch-hauls.ensures _ c.at.ensures _ c.loads_of-loads.ensures _ c.at-amount.ensures; small = small; excess = (λ i below. l.invariant.3.changed i (omega arith)) }

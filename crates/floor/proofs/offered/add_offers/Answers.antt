@@ -24,12 +24,11 @@ pub loop-farm-preserved : goal.loop-farm-preserved
 loop-farm-preserved c = let added = c.add_offer-sum in (
   omega (arith, c.loop-farm-test.true),
   c.add_offer-sum.auto.excess ∙ c.loop-farm.invariant.1,
-  added.ensures.1.1,
-  summed_more _ _ _ _ c.loop-farm.invariant.3 added.ensures.0 added.ensures.1.0,
+  added.ensures.small.1,
+  summed_more _ _ _ _ c.loop-farm.invariant.3 added.ensures.sum added.ensures.small.0,
 )
 
 pub returns : goal.returns
 returns c = let l = c.loop-farm in
     let e : l.farm ≡ c.args.n = omega arith in
-    let all = l.invariant.2 in
-    (rw e at l.invariant.3.exact ∙ all_offers _ _ _ _, rw e at all)
+    let all = l.invariant.2 in record { sum = rw e at l.invariant.3.exact ∙ all_offers _ _ _ _; excess = rw e at all }

@@ -27,8 +27,8 @@ loop-t-smaller c = omega arith
 
 pub loop-t-preserved : goal.loop-t-preserved
 loop-t-preserved c = let put = c.put_open-fee in
-    let more = opened_more _ _ _ _ _ _ c.requires.1 c.requires.2 _ _ _ _ _ c.loop-t-test.true c.loop-t.invariant.1 put.ensures.0 (omega arith) put.ensures.1 in
+    let more = opened_more _ _ _ _ _ _ c.requires.1 c.requires.2 _ _ _ _ _ c.loop-t-test.true c.loop-t.invariant.1 put.ensures.fee (omega arith) put.ensures.area in
     (omega arith, more)
 
 pub returns : goal.returns
-returns c = opened_all _ _ _ _ _ _ c.requires.1 c.requires.2 _ _ _ (omega arith) c.loop-t.invariant.1
+returns c = let told = opened_all _ _ _ _ _ _ c.requires.1 c.requires.2 _ _ _ (omega arith) c.loop-t.invariant.1 in record { exact = told.0; small = told.1.0; area = told.1.1 }

@@ -31,11 +31,10 @@ put_farms-hauls-requires c = let known = c.requires in
 
 pub overflow_add-result : goal.overflow_add-result
 overflow_add-result c = let opens = c.put_opens-fees in
-    omega (arith, c.requires.0.few_yards, c.requires.0.few_farms, opens.ensures.1.0, c.put_farms-hauls.ensures.small.0)
+    omega (arith, c.requires.0.few_yards, c.requires.0.few_farms, opens.ensures.small.0, c.put_farms-hauls.ensures.small.0)
 
 pub returns : goal.returns
 returns c = let farms = c.put_farms-hauls in
     let opens = c.put_opens-fees in
     let known = c.requires in
-    let opened = part_count _ _ _ c.members_below-open.ensures known.0.few_yards in
-    (opened, (total_is _ _ _ _ _ _ opens.ensures.0 farms.ensures.0, body_is _ _ _ _ _ _ _ _ opened (omega arith) opens.ensures.1.1 farms.ensures.1.1))
+    let opened = part_count _ _ _ c.members_below-open.ensures known.0.few_yards in record { open = opened; cost = total_is _ _ _ _ _ _ opens.ensures.exact farms.ensures.exact; area = body_is _ _ _ _ _ _ _ _ opened (omega arith) opens.ensures.small.1 farms.ensures.small.1 }

@@ -14,7 +14,7 @@ pub good_farm-requires : goal.good_farm-requires
 good_farm-requires c = (fewer_farms _ _ _ (c.loop-p.p + 1) c.requires.0 (omega arith), c.loop-p.invariant.3)
 
 pub returns-then-not-good_farm : goal.returns-then-not-good_farm
-returns-then-not-good_farm c = (sym (all_stops _ _ c.loop-p.p (omega arith) (said_no c.good_farm.ensures.good c.if-not-good_farm.true)), λ e. clash e refl)
+returns-then-not-good_farm c = record { good = sym (all_stops _ _ c.loop-p.p (omega arith) (said_no c.good_farm.ensures.good c.if-not-good_farm.true)); filled = λ e. clash e refl }
 
 pub overflow_add-p : goal.overflow_add-p
 overflow_add-p c = omega arith
@@ -31,5 +31,4 @@ loop-p-preserved c = (
 )
 
 pub returns : goal.returns
-returns c = let e : c.loop-p.p ≡ c.args.n = omega arith in
-    (rw e at c.loop-p.invariant.2, λ t. rw e at c.loop-p.invariant.3)
+returns c = let e : c.loop-p.p ≡ c.args.n = omega arith in record { good = rw e at c.loop-p.invariant.2; filled = λ t. rw e at c.loop-p.invariant.3 }
