@@ -2,7 +2,7 @@
 use Prim.Native.Nat.{ℕ, ◌≤◌, ◌<◌}
 use mathlib.Core.Path.{◌≡◌, refl, sym, ◌∙◌}
 use mathlib.Core.Bool.{Bool, true, false, cond, not, ◌&&◌, ◌||◌, true≢false, false≢true}
-use borrow.Author.Tests.{eq-eqb, eqb-true, eqb-false, ltb-true, ltb-false, not-true, not-false}
+use borrow.Author.Tests.{eq-eqb, eqb-true, eqb-false, ltb-true, ltb-false}
 use lib.Dec.{eqb, ltb}
 
 -- two cases on a test, each with its equation: `cases (S i) (λ e. ..) (λ e. ..)`
@@ -50,12 +50,12 @@ eqb_self a = eq-eqb a a refl
 pub eqb_swap : (a b : ℕ) → eqb a b ≡ true → eqb b a ≡ true
 eqb_swap a b h = eq-eqb b a (sym (eqb-true a b h))
 
--- what a branch on `!r` says of the question q, where r is the answer to it
-pub said_no : {r q : Bool} → r ≡ q → not r ≡ true → q ≡ false
-said_no {r} e h = sym e ∙ not-true r h
+-- what a branch on r says of the question q, where r is the answer to it
+pub said_no : {r q : Bool} → r ≡ q → r ≡ false → q ≡ false
+said_no e h = sym e ∙ h
 
-pub said_yes : {r q : Bool} → r ≡ q → not r ≡ false → q ≡ true
-said_yes {r} e h = sym e ∙ not-false r h
+pub said_yes : {r q : Bool} → r ≡ q → r ≡ true → q ≡ true
+said_yes e h = sym e ∙ h
 
 -- The two ways that `eqb a b` comes out, each with its meaning: match on `test a b` together with the Boolean.
 pub data Eq? (a b : ℕ) : Bool → Type 0 where

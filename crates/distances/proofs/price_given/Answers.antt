@@ -13,7 +13,8 @@ price_into-requires c = let given = read_accepted (tariff_reading c.args.tariff.
 pub returns-in-Accepted : goal.returns-in-Accepted
 unfolding under_given
 returns-in-Accepted c = let given = read_accepted (tariff_reading c.args.tariff.now) _ c.read_tariff-given.ensures c.in-Accepted.is in
-    let priced = c.price_into in record { hauls = rw given.1 (priced.ensures.hauls ∙ priced_as _ _ _ given.2); room = priced.ensures.room }
+    let priced = c.price_into in
+    record { hauls = rw given.1 (priced.ensures.hauls ∙ priced_as _ _ _ given.2); room = priced.ensures.room }
 
 pub returns-in-Refused : goal.returns-in-Refused
 unfolding under_given

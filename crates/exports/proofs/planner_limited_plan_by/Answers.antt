@@ -9,7 +9,8 @@ pub returns : goal.returns
 returns c = let planned = c.limited_plan_by-limited_plan in
     let k = c.args.k in
     let area = planned.new.1.1.1.1.0 in
-    let bits = subst KeepsBits (sym planned.ensures.answer) (limited_by_within _ _ _ _ _) in let told = rw (← c.choice_of.ensures) (
+    let bits = subst KeepsBits (sym planned.ensures.answer) (limited_by_within _ _ _ _ _) in
+    let told = rw (← c.choice_of.ensures) (
       c.plan_number.ensures ∙ ap result_number planned.ensures.answer,
       (
         planned.ensures.area.0,
@@ -21,4 +22,5 @@ returns c = let planned = c.limited_plan_by-limited_plan in
           ),
         ),
       ),
-    ) in record { answer = told.0; area = told.1.0; sized = told.1.1.0; settled = told.1.1.1.0; bounded = told.1.1.1.1 }
+    ) in
+    record { answer = told.0; area = told.1.0; sized = told.1.1.0; settled = told.1.1.1.0; bounded = told.1.1.1.1 }

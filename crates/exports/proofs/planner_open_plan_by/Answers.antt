@@ -8,7 +8,8 @@ use Rattle.exports.proofs.planner_open_plan_by.Goals as goal
 pub returns : goal.returns
 returns c = let planned = c.open_plan_by-open_plan in
     let area = planned.new.1.1.1.0 in
-    let bits = subst KeepsBits (sym planned.ensures.answer) (open_by_within _ _ _ _) in let told = rw (← c.choice_of.ensures) (
+    let bits = subst KeepsBits (sym planned.ensures.answer) (open_by_within _ _ _ _) in
+    let told = rw (← c.choice_of.ensures) (
       c.plan_number.ensures ∙ ap result_number planned.ensures.answer,
       (
         planned.ensures.area.0,
@@ -17,4 +18,5 @@ returns c = let planned = c.open_plan_by-open_plan in
           of_written_by _ _ _ _ area BoundedByRivals planned.result bits c.plan_number.ensures planned.ensures.area.1.1,
         ),
       ),
-    ) in record { answer = told.0; area = told.1.0; settled = told.1.1.0; bounded = told.1.1.1 }
+    ) in
+    record { answer = told.0; area = told.1.0; settled = told.1.1.0; bounded = told.1.1.1 }

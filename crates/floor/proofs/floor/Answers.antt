@@ -12,7 +12,9 @@ pub offers_good-requires : goal.offers_good-requires
 offers_good-requires c = (accepts _ _ _ (sym c.read.ensures ∙ ap reading_answer c.in-Accepted.is)).has.few_farms
 
 pub returns-then-not-offers_good : goal.returns-then-not-offers_good
-returns-then-not-offers_good c = let e = sym c.read.ensures ∙ ap reading_answer c.in-Accepted.is in let told = answers _ _ _ (broken _ _ _ _ e (said_no c.offers_good.ensures c.if-not-offers_good.true)) in record { answer = told.0; under = told.1 }
+returns-then-not-offers_good c = let e = sym c.read.ensures ∙ ap reading_answer c.in-Accepted.is in
+    let told = answers _ _ _ (broken _ _ _ _ e (said_no c.offers_good.ensures c.if-not-offers_good.true)) in
+    record { answer = told.0; under = told.1 }
 
 pub add_offers-sum-requires : goal.add_offers-sum-requires
 add_offers-sum-requires c = let shape = shape_of (accepts _ _ _ (sym c.read.ensures ∙ ap reading_answer c.in-Accepted.is)).has in
@@ -29,11 +31,16 @@ fees_cover-requires c = let shape = shape_of (accepts _ _ _ (sym c.read.ensures 
 
 pub returns-then-not-fees_cover : goal.returns-then-not-fees_cover
 returns-then-not-fees_cover c = let e = sym c.read.ensures ∙ ap reading_answer c.in-Accepted.is in
-    let in_place = said_yes c.offers_good.ensures c.if-not-offers_good.false in let told = answers _ _ _ (overbids _ _ _ _ e in_place (said_no (c.fees_cover.ensures ∙ covered _ _ _ _ _ c.add_offers-sum.ensures.excess) c.if-not-fees_cover.true)) in record { answer = told.0; under = told.1 }
+    let in_place = said_yes c.offers_good.ensures c.if-not-offers_good.false in
+    let told = answers _ _ _ (overbids _ _ _ _ e in_place (said_no (c.fees_cover.ensures ∙ covered _ _ _ _ _ c.add_offers-sum.ensures.excess) c.if-not-fees_cover.true)) in
+    record { answer = told.0; under = told.1 }
 
 pub returns-else-not-fees_cover : goal.returns-else-not-fees_cover
 returns-else-not-fees_cover c = let e = sym c.read.ensures ∙ ap reading_answer c.in-Accepted.is in
-    let in_place = said_yes c.offers_good.ensures c.if-not-offers_good.false in let told = answers _ _ _ (told _ _ _ _ e in_place (said_yes (c.fees_cover.ensures ∙ covered _ _ _ _ _ c.add_offers-sum.ensures.excess) c.if-not-fees_cover.false) _ c.add_offers-sum.ensures.sum) in record { answer = told.0; under = told.1 }
+    let in_place = said_yes c.offers_good.ensures c.if-not-offers_good.false in
+    let told = answers _ _ _ (told _ _ _ _ e in_place (said_yes (c.fees_cover.ensures ∙ covered _ _ _ _ _ c.add_offers-sum.ensures.excess) c.if-not-fees_cover.false) _ c.add_offers-sum.ensures.sum) in
+    record { answer = told.0; under = told.1 }
 
 pub returns-in-Refused : goal.returns-in-Refused
-returns-in-Refused c = let told = answers _ _ _ (unread _ _ _ (sym c.read.ensures ∙ ap reading_answer c.in-Refused.is)) in record { answer = told.0; under = told.1 }
+returns-in-Refused c = let told = answers _ _ _ (unread _ _ _ (sym c.read.ensures ∙ ap reading_answer c.in-Refused.is)) in
+    record { answer = told.0; under = told.1 }

@@ -13,10 +13,16 @@ pub slice_bounds-floor-end : goal.slice_bounds-floor-end
 slice_bounds-floor-end c = part_length _ _ c.hauls_by.auto.hauls2 _ _ c.in-Priced.is c.hauls_by.ensures.room _ refl
 
 pub returns-in-AsWritten : goal.returns-in-AsWritten
-returns-in-AsWritten c = let offers = c.args.offers.now in let told = answers_by _ _ _ offers _ (c.floor.ensures.answer ∙ as_written _ _ _ _ (search rules) _ _ c.hauls_by.ensures.hauls (λ h. offering h offers) c.in-AsWritten.is) in record { answer = told.0; under = told.1 }
+returns-in-AsWritten c = let offers = c.args.offers.now in
+    let told = answers_by _ _ _ offers _ (c.floor.ensures.answer ∙ as_written _ _ _ _ (search rules) _ _ c.hauls_by.ensures.hauls (λ h. offering h offers) c.in-AsWritten.is) in
+    record { answer = told.0; under = told.1 }
 
 pub returns-in-Priced : goal.returns-in-Priced
-returns-in-Priced c = let offers = c.args.offers.now in let told = answers_by _ _ _ offers _ (c.floor-in-Priced.ensures.answer ∙ as_priced _ _ _ _ (search rules) _ _ c.hauls_by.ensures.hauls (λ h. offering h offers) (offering_first offers) _ c.in-Priced.is) in record { answer = told.0; under = told.1 }
+returns-in-Priced c = let offers = c.args.offers.now in
+    let told = answers_by _ _ _ offers _ (c.floor-in-Priced.ensures.answer ∙ as_priced _ _ _ _ (search rules) _ _ c.hauls_by.ensures.hauls (λ h. offering h offers) (offering_first offers) _ c.in-Priced.is) in
+    record { answer = told.0; under = told.1 }
 
 pub returns-in-Refused : goal.returns-in-Refused
-returns-in-Refused c = let offers = c.args.offers.now in let told = answers_by _ _ _ offers _ (as_refused _ _ _ _ (search rules) _ _ c.hauls_by.ensures.hauls (λ h. offering h offers) _ c.in-Refused.is) in record { answer = told.0; under = told.1 }
+returns-in-Refused c = let offers = c.args.offers.now in
+    let told = answers_by _ _ _ offers _ (as_refused _ _ _ _ (search rules) _ _ c.hauls_by.ensures.hauls (λ h. offering h offers) _ c.in-Refused.is) in
+    record { answer = told.0; under = told.1 }

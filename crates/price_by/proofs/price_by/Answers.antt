@@ -21,16 +21,19 @@ unfolding pricing_by
 returns-in-AsWritten c = let a = c.args in
     let priced = c.price in
     let both = as_outcome (as_written _ _ _ _ (search rules) _ _ c.hauls_by.ensures.hauls (λ h. pricing h a.set (length a.area.now)) c.in-AsWritten.is)
-    priced.result _ _ (priced.ensures.answer, priced.ensures.area.0) in record { answer = both.0; area = both.1; kept = priced.ensures.area.1 }
+    priced.result _ _ (priced.ensures.answer, priced.ensures.area.0) in
+    record { answer = both.0; area = both.1; kept = priced.ensures.area.1 }
 
 pub returns-in-Priced : goal.returns-in-Priced
 unfolding pricing_by
 returns-in-Priced c = let a = c.args in
     let priced = c.price-in-Priced in
     let both = as_outcome (as_priced _ _ _ _ (search rules) _ _ c.hauls_by.ensures.hauls (λ h. pricing h a.set (length a.area.now)) (pricing_first a.set (length a.area.now)) _ c.in-Priced.is)
-    priced.result _ _ (priced.ensures.answer, priced.ensures.area.0) in record { answer = both.0; area = both.1; kept = priced.ensures.area.1 }
+    priced.result _ _ (priced.ensures.answer, priced.ensures.area.0) in
+    record { answer = both.0; area = both.1; kept = priced.ensures.area.1 }
 
 pub returns-in-Refused : goal.returns-in-Refused
 unfolding pricing_by
 returns-in-Refused c = let a = c.args in
-    let both = refuses _ a.area.now _ (sym (as_refused _ _ _ _ (search rules) _ _ c.hauls_by.ensures.hauls (λ h. pricing h a.set (length a.area.now)) _ c.in-Refused.is)) in record { answer = both.0; area = both.1; kept = none_written _ a.area.now (λ kept. kept ≡ a.set) }
+    let both = refuses _ a.area.now _ (sym (as_refused _ _ _ _ (search rules) _ _ c.hauls_by.ensures.hauls (λ h. pricing h a.set (length a.area.now)) _ c.in-Refused.is)) in
+    record { answer = both.0; area = both.1; kept = none_written _ a.area.now (λ kept. kept ≡ a.set) }

@@ -51,4 +51,5 @@ loop-i-preserved c = let a = c.args in
 
 pub returns : goal.returns
 returns c = let l = c.loop-i in
-    let e : l.i ≡ 32 = omega arith in record { whole = rw e at l.invariant.3; part = rw e at l.invariant.4 }
+    let e : l.i ≡ 32 = omega arith in
+    record { whole = rw e at l.invariant.3; part = rw e at l.invariant.4 }

@@ -10,11 +10,15 @@ use Rattle.shut.proofs.ShuttingLaws.{left_over, shut_unread, shut_marked, not_sh
 use Rattle.shut.proofs.shut.Goals as goal
 
 pub returns-then-not-set_good : goal.returns-then-not-set_good
-returns-then-not-set_good c = let e = sym c.read.ensures ∙ ap reading_answer c.in-Accepted.is in let told = shut_answers _ _ _ _ (shut_marked _ _ _ _ _ e (said_no c.set_good.ensures c.if-not-set_good.true)) in record { answer = told.0; difference = told.1 }
+returns-then-not-set_good c = let e = sym c.read.ensures ∙ ap reading_answer c.in-Accepted.is in
+    let told = shut_answers _ _ _ _ (shut_marked _ _ _ _ _ e (said_no c.set_good.ensures c.if-not-set_good.true)) in
+    record { answer = told.0; difference = told.1 }
 
 pub returns-then-not-can_shut : goal.returns-then-not-can_shut
 returns-then-not-can_shut c = let e = sym c.read.ensures ∙ ap reading_answer c.in-Accepted.is in
-    let marked = said_yes c.set_good.ensures c.if-not-set_good.false in let told = shut_answers _ _ _ _ (not_shut _ _ _ _ _ e marked (said_no (c.can_shut.ensures ∙ left_over _ _ _ marked) c.if-not-can_shut.true)) in record { answer = told.0; difference = told.1 }
+    let marked = said_yes c.set_good.ensures c.if-not-set_good.false in
+    let told = shut_answers _ _ _ _ (not_shut _ _ _ _ _ e marked (said_no (c.can_shut.ensures ∙ left_over _ _ _ marked) c.if-not-can_shut.true)) in
+    record { answer = told.0; difference = told.1 }
 
 pub hauls_moved-moved-requires : goal.hauls_moved-moved-requires
 hauls_moved-moved-requires c = shape_of (accepts _ _ _ (sym c.read.ensures ∙ ap reading_answer c.in-Accepted.is)).has
@@ -32,7 +36,10 @@ less-requires c = let few = (accepts _ _ _ (sym c.read.ensures ∙ ap reading_an
 pub returns-else-not-can_shut : goal.returns-else-not-can_shut
 returns-else-not-can_shut c = let e = sym c.read.ensures ∙ ap reading_answer c.in-Accepted.is in
     let marked = said_yes c.set_good.ensures c.if-not-set_good.false in
-    let can = said_yes (c.can_shut.ensures ∙ left_over _ _ _ marked) c.if-not-can_shut.false in let told = shut_answers _ _ _ _ (shut_told _ _ _ _ _ e marked can _ _ _ _ c.at-fee.ensures c.hauls_moved-moved.ensures.there c.hauls_moved-moved.ensures.elsewhere.0 (to_z-of_z {w = w64} (record { sfits = c.less.type_inv }) ∙ c.less.ensures)) in record { answer = told.0; difference = told.1 }
+    let can = said_yes (c.can_shut.ensures ∙ left_over _ _ _ marked) c.if-not-can_shut.false in
+    let told = shut_answers _ _ _ _ (shut_told _ _ _ _ _ e marked can _ _ _ _ c.at-fee.ensures c.hauls_moved-moved.ensures.there c.hauls_moved-moved.ensures.elsewhere.0 (to_z-of_z {w = w64} (record { sfits = c.less.type_inv }) ∙ c.less.ensures)) in
+    record { answer = told.0; difference = told.1 }
 
 pub returns-in-Refused : goal.returns-in-Refused
-returns-in-Refused c = let told = shut_answers _ _ _ _ (shut_unread _ _ _ _ (sym c.read.ensures ∙ ap reading_answer c.in-Refused.is)) in record { answer = told.0; difference = told.1 }
+returns-in-Refused c = let told = shut_answers _ _ _ _ (shut_unread _ _ _ _ (sym c.read.ensures ∙ ap reading_answer c.in-Refused.is)) in
+    record { answer = told.0; difference = told.1 }

@@ -13,10 +13,16 @@ pub slice_bounds-shut-end : goal.slice_bounds-shut-end
 slice_bounds-shut-end c = part_length _ _ c.hauls_by.auto.hauls2 _ _ c.in-Priced.is c.hauls_by.ensures.room _ refl
 
 pub returns-in-AsWritten : goal.returns-in-AsWritten
-returns-in-AsWritten c = let a = c.args in let told = shut_answers_by _ _ _ a.set a.yard _ (c.shut.ensures.answer ∙ as_written _ _ _ _ (search rules) _ _ c.hauls_by.ensures.hauls (λ h. shutting h a.set a.yard) c.in-AsWritten.is) in record { answer = told.0; difference = told.1 }
+returns-in-AsWritten c = let a = c.args in
+    let told = shut_answers_by _ _ _ a.set a.yard _ (c.shut.ensures.answer ∙ as_written _ _ _ _ (search rules) _ _ c.hauls_by.ensures.hauls (λ h. shutting h a.set a.yard) c.in-AsWritten.is) in
+    record { answer = told.0; difference = told.1 }
 
 pub returns-in-Priced : goal.returns-in-Priced
-returns-in-Priced c = let a = c.args in let told = shut_answers_by _ _ _ a.set a.yard _ (c.shut-in-Priced.ensures.answer ∙ as_priced _ _ _ _ (search rules) _ _ c.hauls_by.ensures.hauls (λ h. shutting h a.set a.yard) (shut_first a.set a.yard) _ c.in-Priced.is) in record { answer = told.0; difference = told.1 }
+returns-in-Priced c = let a = c.args in
+    let told = shut_answers_by _ _ _ a.set a.yard _ (c.shut-in-Priced.ensures.answer ∙ as_priced _ _ _ _ (search rules) _ _ c.hauls_by.ensures.hauls (λ h. shutting h a.set a.yard) (shut_first a.set a.yard) _ c.in-Priced.is) in
+    record { answer = told.0; difference = told.1 }
 
 pub returns-in-Refused : goal.returns-in-Refused
-returns-in-Refused c = let a = c.args in let told = shut_answers_by _ _ _ a.set a.yard _ (as_refused _ _ _ _ (search rules) _ _ c.hauls_by.ensures.hauls (λ h. shutting h a.set a.yard) _ c.in-Refused.is) in record { answer = told.0; difference = told.1 }
+returns-in-Refused c = let a = c.args in
+    let told = shut_answers_by _ _ _ a.set a.yard _ (as_refused _ _ _ _ (search rules) _ _ c.hauls_by.ensures.hauls (λ h. shutting h a.set a.yard) _ c.in-Refused.is) in
+    record { answer = told.0; difference = told.1 }

@@ -18,4 +18,6 @@ overflow_add-result c = let start = c.args in
 pub returns : goal.returns
 returns c = let start = c.args in
     let b = farm_begins start.sheet.now start.farm in
-    let is = ap length c.farm_hauls-bytes.ensures in let told = rw (is, ← b.by_length) (refl, b.hauls_there) in record { from = told.0; hauls = told.1 }
+    let is = ap length c.farm_hauls-bytes.ensures in
+    let told = rw (is, ← b.by_length) (refl, b.hauls_there) in
+    record { from = told.0; hauls = told.1 }

@@ -29,4 +29,5 @@ put_block-requires c = let found = c.bands_of-bands in
     )
 
 pub returns : goal.returns
-returns c = let took = c.take_distances in record { within = sym (said_yes took.ensures.within c.if-not-take_distances.false); area = λ yes. c.put_block.ensures }
+returns c = let took = c.take_distances in
+    record { within = sym (said_yes took.ensures.within c.if-not-take_distances.false); area = λ yes. c.put_block.ensures }

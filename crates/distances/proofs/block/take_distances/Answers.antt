@@ -25,7 +25,8 @@ distance_of-distance-requires c = omega arith
 
 pub returns-then-reach-distance : goal.returns-then-reach-distance
 returns-then-reach-distance c = let start = c.args in
-    let read = c.distance_of-distance.ensures ∙ ap distance_of c.record_within.ensures in record { within = sym (all_stops _ _ c.loop-k.k (omega arith) (far_read start.sheet.now start.from start.reach c.loop-k.k _ read c.if-reach-distance.true)); taken = λ yes. clash yes refl }
+    let read = c.distance_of-distance.ensures ∙ ap distance_of c.record_within.ensures in
+    record { within = sym (all_stops _ _ c.loop-k.k (omega arith) (far_read start.sheet.now start.from start.reach c.loop-k.k _ read c.if-reach-distance.true)); taken = λ yes. clash yes refl }
 
 pub overflow_cast-distances : goal.overflow_cast-distances
 overflow_cast-distances c = omega arith
@@ -52,4 +53,5 @@ loop-k-preserved c = let start = c.args in
     )
 
 pub returns : goal.returns
-returns c = let e : c.loop-k.k ≡ c.args.count = omega arith in record { within = rw e at c.loop-k.invariant.2; taken = λ yes k l. c.loop-k.invariant.3 k (omega arith) }
+returns c = let e : c.loop-k.k ≡ c.args.count = omega arith in
+    record { within = rw e at c.loop-k.invariant.2; taken = λ yes k l. c.loop-k.invariant.3 k (omega arith) }

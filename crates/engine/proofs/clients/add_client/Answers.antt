@@ -9,7 +9,8 @@ returns-then-near-arrived c = let arrived = c.arrival-arrived in
     let here =
     near_kept a.m a.service.now a.kept.now a.set a.next a.came 32 a.j arrived.result pre.0.rows.few_facilities
     pre.3 pre.2 arrived.ensures c.if-near-arrived.true (goes_nowhere _)
-    in record { kept = pre.0; near = here; others = others_same a.j a.kept.now }
+    in
+    record { kept = pre.0; near = here; others = others_same a.j a.kept.now }
 
 pub change-requires : goal.change-requires
 change-requires c = let a = c.args in
@@ -25,4 +26,5 @@ returns c = let a = c.args in
     let answer = c.change.ensures in
     let after = c.inserted-after in
     let is = near_joined a.m a.service.now a.kept.now a.set a.next a.came a.j _ after.result pre.0.rows.few_facilities pre.3
-    pre.2 c.arrival-arrived.ensures after.ensures in record { kept = answer.0; near = near_put a.m a.service.now _ _ a.j a.next after.result is answer.1; others = answer.1.others }
+    pre.2 c.arrival-arrived.ensures after.ensures in
+    record { kept = answer.0; near = near_put a.m a.service.now _ _ a.j a.next after.result is answer.1; others = answer.1.others }

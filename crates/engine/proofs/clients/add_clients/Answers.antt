@@ -33,4 +33,5 @@ loop-j-preserved c = let l = c.loop-j in
 pub returns : goal.returns
 returns c = let l = c.loop-j in
     let a = c.args in
-    let e : l.j ≡ a.n = omega arith in record { kept = l.invariant.1; near = subst (λ (j : ℕ). NearFrom a.m a.n a.service.now l.auto a.set a.next j) e l.invariant.2 }
+    let e : l.j ≡ a.n = omega arith in
+    record { kept = l.invariant.1; near = subst (λ (j : ℕ). NearFrom a.m a.n a.service.now l.auto a.set a.next j) e l.invariant.2 }

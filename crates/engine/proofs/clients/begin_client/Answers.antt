@@ -8,4 +8,5 @@ enter-requires c = let a = c.args in
 
 pub returns : goal.returns
 returns c = let answer = c.enter.ensures in
-    let a = c.args in record { kept = answer.0; near = near_put a.m a.service.now _ _ a.j a.set c.near_of-near.result c.near_of-near.ensures answer.1; others = answer.1.others }
+    let a = c.args in
+    record { kept = answer.0; near = near_put a.m a.service.now _ _ a.j a.set c.near_of-near.result c.near_of-near.ensures answer.1; others = answer.1.others }

@@ -10,7 +10,8 @@ returns-then-not-goes_to c = let arrived = c.arrival-arrived in
     let here =
     near_kept a.m a.service.now a.kept.now a.set a.next a.came a.went a.j arrived.result pre.0.rows.few_facilities
     pre.3 pre.2 arrived.ensures c.if-near-arrived.true (said_no c.goes_to.ensures c.if-not-goes_to.true)
-    in record { kept = pre.0; near = here; others = others_same a.j a.kept.now }
+    in
+    record { kept = pre.0; near = here; others = others_same a.j a.kept.now }
 
 pub near_after-after-requires : goal.near_after-after-requires
 near_after-after-requires c = let a = c.args in
@@ -33,4 +34,5 @@ change-requires c = let a = c.args in
 
 pub returns : goal.returns
 returns c = let answer = c.change.ensures in
-    let a = c.args in record { kept = answer.0; near = near_put a.m a.service.now _ _ a.j a.next c.near_after-after.result c.near_after-after.ensures answer.1; others = answer.1.others }
+    let a = c.args in
+    record { kept = answer.0; near = near_put a.m a.service.now _ _ a.j a.next c.near_after-after.result c.near_after-after.ensures answer.1; others = answer.1.others }

@@ -36,4 +36,5 @@ loop-j-preserved c = let a = c.args in
 
 pub returns : goal.returns
 returns c = let l = c.loop-j in
-    let e : l.j ≡ c.args.n = omega arith in record { sums = rw e at l.invariant.3; aside = l.invariant.4 }
+    let e : l.j ≡ c.args.n = omega arith in
+    record { sums = rw e at l.invariant.3; aside = l.invariant.4 }

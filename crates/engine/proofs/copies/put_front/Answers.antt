@@ -32,4 +32,5 @@ loop-i-preserved c = let l = c.loop-i in (
 
 pub returns : goal.returns
 returns c = let l = c.loop-i in
-    let e : l.i ≡ c.args.count = omega arith in record { front = rw e at l.invariant.2; behind = rw e at l.invariant.3 }
+    let e : l.i ≡ c.args.count = omega arith in
+    record { front = rw e at l.invariant.2; behind = rw e at l.invariant.3 }

@@ -48,4 +48,5 @@ pub bounds-kept-j-5 : goal.bounds-kept-j-5
 bounds-kept-j-5 c = simp length-set (omega (arith, c.requires.0.room, c.requires.0.rows.few_clients))
 
 pub returns : goal.returns
-returns c = let shifted = leave_shifted c.requires.0 c.args.j c.requires.1 _ c.shift_out.ensures in record { kept = leave_kept c.requires.0 c.args.j c.requires.1 _ shifted (omega arith); put = leave_put c.requires.0 c.args.j c.requires.1 _ shifted (omega arith) }
+returns c = let shifted = leave_shifted c.requires.0 c.args.j c.requires.1 _ c.shift_out.ensures in
+    record { kept = leave_kept c.requires.0 c.args.j c.requires.1 _ shifted (omega arith); put = leave_put c.requires.0 c.args.j c.requires.1 _ shifted (omega arith) }

@@ -31,4 +31,5 @@ loop-farm-preserved c = let added = c.add_offer-sum in (
 pub returns : goal.returns
 returns c = let l = c.loop-farm in
     let e : l.farm ≡ c.args.n = omega arith in
-    let all = l.invariant.2 in record { sum = rw e at l.invariant.3.exact ∙ all_offers _ _ _ _; excess = rw e at all }
+    let all = l.invariant.2 in
+    record { sum = rw e at l.invariant.3.exact ∙ all_offers _ _ _ _; excess = rw e at all }

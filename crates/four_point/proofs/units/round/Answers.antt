@@ -44,4 +44,5 @@ loop-k-preserved c = let l = c.loop-k in
 
 pub returns : goal.returns
 returns c = let l = c.loop-k in
-    let e : l.k ≡ c.args.count = omega arith in record { above = rw e at l.invariant.2; units = λ k b. l.invariant.4 k (omega arith) }
+    let e : l.k ≡ c.args.count = omega arith in
+    record { above = rw e at l.invariant.2; units = λ k b. l.invariant.4 k (omega arith) }

@@ -25,4 +25,5 @@ returns c = let r = c.nearest_listed-near.result in
     let put = put_one _ _ _ _ (record_of 0x41 r.yard c.args.farm byte r.haul) c.requires.3 c.new-record.ensures c.put.ensures in
     let part = c.farm_stretch-hauls.ensures in
     let nearest_is = c.nearest_listed-near.ensures ∙ farm_listed _ _ _ _ c.requires.0 c.requires.2 _ _ _ part c.requires.1 in
-    let is = farm_from_lem _ _ _ _ c.requires.0 _ c.requires.2 _ _ _ _ part nearest_is c.at-byte3.ensures c.loads_of.ensures in record { exact = is.0; small = small; area = put ∙ ap (splice _ _) is.1 }
+    let is = farm_from_lem _ _ _ _ c.requires.0 _ c.requires.2 _ _ _ _ part nearest_is c.at-byte3.ensures c.loads_of.ensures in
+    record { exact = is.0; small = small; area = put ∙ ap (splice _ _) is.1 }

@@ -26,4 +26,5 @@ loop-farm-preserved c = let put = c.put_farm-cost in
     (omega arith, served_more _ _ _ _ _ _ _ _ _ _ _ (omega arith) c.loop-farm.invariant.1 put.ensures.exact put.ensures.small.0 put.ensures.small.1)
 
 pub returns : goal.returns
-returns c = let told = served_all _ _ _ _ _ _ _ _ _ (omega arith) c.loop-farm.invariant.1 in record { exact = told.0; small = told.1.0; area = told.1.1 }
+returns c = let told = served_all _ _ _ _ _ _ _ _ _ (omega arith) c.loop-farm.invariant.1 in
+    record { exact = told.0; small = told.1.0; area = told.1.1 }

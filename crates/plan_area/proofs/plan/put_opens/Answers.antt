@@ -31,4 +31,5 @@ loop-t-preserved c = let put = c.put_open-fee in
     (omega arith, more)
 
 pub returns : goal.returns
-returns c = let told = opened_all _ _ _ _ _ _ c.requires.1 c.requires.2 _ _ _ (omega arith) c.loop-t.invariant.1 in record { exact = told.0; small = told.1.0; area = told.1.1 }
+returns c = let told = opened_all _ _ _ _ _ _ c.requires.1 c.requires.2 _ _ _ (omega arith) c.loop-t.invariant.1 in
+    record { exact = told.0; small = told.1.0; area = told.1.1 }

@@ -40,7 +40,9 @@ write-requires c = let a = c.args in
     (shape_of (accepts _ _ _ c.requires.0).has, c.requires.3, small.0, small.1)
 
 pub returns : goal.returns
-returns c = let a = c.args in let told = as_outcome (ap (λ e. accepted (plan_of (instance_by a.sheet.now a.m a.n) (farm_byte a.sheet.now a.m) e))
+returns c = let a = c.args in
+    let told = as_outcome (ap (λ e. accepted (plan_of (instance_by a.sheet.now a.m a.n) (farm_byte a.sheet.now a.m) e))
     (same_end a.sheet.now a.m a.n a.k _ _ c.fill_rows.ensures c.search_on-settled.result a.neighbourhood c.fill_opening.ensures
     c.search_on-settled.ensures))
-    c.write.result _ _ c.write.ensures in record { answer = told.0; area = told.1 }
+    c.write.result _ _ c.write.ensures in
+    record { answer = told.0; area = told.1 }

@@ -20,7 +20,8 @@ record_within-loads-requires c = omega (arith, c.requires.0.some_yards)
 
 pub returns-then-loads-gt-MOST_LOADS : goal.returns-then-loads-gt-MOST_LOADS
 returns-then-loads-gt-MOST_LOADS c = let s = c.args in
-    let first = byte_read s.sheet.now s.m s.p _ c.record_within-loads.ensures in record { good = many_loads s.sheet.now s.m s.p (omega arith); filled = λ yes. clash yes refl }
+    let first = byte_read s.sheet.now s.m s.p _ c.record_within-loads.ensures in
+    record { good = many_loads s.sheet.now s.m s.p (omega arith); filled = λ yes. clash yes refl }
 
 pub loop-a-init : goal.loop-a-init
 loop-a-init c = (omega arith, refl, all_none _, c.requires.1)
@@ -49,7 +50,8 @@ record_is-requires c = omega arith
 pub returns-then-not-record_is : goal.returns-then-not-record_is
 returns-then-not-record_is c = let s = c.args in
     let first = byte_read s.sheet.now s.m s.p _ c.record_within-loads.ensures in
-    let wrong = said_no (haul_tested s.sheet.now s.m s.p c.loop-a.a _ _ _ c.record_within-record.ensures first c.record_is.ensures) c.if-not-record_is.true in record { good = bad_haul s.sheet.now s.m s.p c.loop-a.a (omega arith) wrong; filled = λ yes. clash yes refl }
+    let wrong = said_no (haul_tested s.sheet.now s.m s.p c.loop-a.a _ _ _ c.record_within-record.ensures first c.record_is.ensures) c.if-not-record_is.true in
+    record { good = bad_haul s.sheet.now s.m s.p c.loop-a.a (omega arith) wrong; filled = λ yes. clash yes refl }
 
 pub overflow_mul-table : goal.overflow_mul-table
 overflow_mul-table c = omega arith
@@ -85,4 +87,5 @@ loop-a-preserved c = let s = c.args in
 pub returns : goal.returns
 returns c = let s = c.args in
     let e : c.loop-a.a ≡ s.m = omega arith in
-    let first = byte_read s.sheet.now s.m s.p _ c.record_within-loads.ensures in record { good = good_hauls s.sheet.now s.m s.p (omega arith) (rw e at c.loop-a.invariant.2); filled = λ yes. filled_farm _ _ _ _ (rw e at c.loop-a.invariant.3) }
+    let first = byte_read s.sheet.now s.m s.p _ c.record_within-loads.ensures in
+    record { good = good_hauls s.sheet.now s.m s.p (omega arith) (rw e at c.loop-a.invariant.2); filled = λ yes. filled_farm _ _ _ _ (rw e at c.loop-a.invariant.3) }

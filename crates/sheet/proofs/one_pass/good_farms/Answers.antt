@@ -31,4 +31,5 @@ loop-p-preserved c = (
 )
 
 pub returns : goal.returns
-returns c = let e : c.loop-p.p ≡ c.args.n = omega arith in record { good = rw e at c.loop-p.invariant.2; filled = λ t. rw e at c.loop-p.invariant.3 }
+returns c = let e : c.loop-p.p ≡ c.args.n = omega arith in
+    record { good = rw e at c.loop-p.invariant.2; filled = λ t. rw e at c.loop-p.invariant.3 }

@@ -38,4 +38,5 @@ pub loop-farm-preserved : goal.loop-farm-preserved
 loop-farm-preserved c = (omega arith, moved_more _ _ _ _ _ _ _ _ _ _ c.loop-farm.invariant.1 c.farm_moved-moved.ensures.there c.farm_moved-moved.ensures.elsewhere.0 c.farm_moved-moved.ensures.elsewhere.1)
 
 pub returns : goal.returns
-returns c = let told = moved_all _ _ _ _ _ _ _ _ (omega arith) c.loop-farm.invariant.1 in record { there = told.0; elsewhere = told.1.0; small = told.1.1 }
+returns c = let told = moved_all _ _ _ _ _ _ _ _ (omega arith) c.loop-farm.invariant.1 in
+    record { there = told.0; elsewhere = told.1.0; small = told.1.1 }
