@@ -24,7 +24,7 @@ returns-then-round-ne0 c = sym (cost_too_high _ _ _ c.if-facilities-gt-MOST_FACI
 
 pub every_pair-requires : goal.every_pair-requires
 every_pair-requires c = rounded_of _ _ _ _ c.if-facilities-gt-MOST_FACILITIES.false c.if-clients-gt-ROW_PLACES.false c.if-table-facilities.false
-    (omega (arith, c.round.auto.units2, length-replicate {A = ℕ} (most_facilities * row_places) 0))
+    (omega (arith, c.round.auto.units, length-replicate {A = ℕ} (most_facilities * row_places) 0))
     (sym c.round.ensures.above ∙ c.if-round-ne0.false) c.round.ensures.units
 
 pub returns : goal.returns

@@ -36,8 +36,8 @@ returns-then-not-hauls_good c = sym (form_4 _ (said_yes c.length_good.ensures c.
 pub returns : goal.returns
 returns c = ap₂ (λ (m n : ℕ). accepted (counts m n)) c.leading_yards-yards.ensures c.farm_count-farms.ensures
     ∙ sym (form_yes _ record {
-      c = said_yes c.length_good.ensures c.if-not-length_good.false;
-      c = said_yes c.records_good.ensures c.if-not-records_good.false;
-      c = said_yes c.yards_good.ensures c.if-not-yards_good.false;
+      first = said_yes c.length_good.ensures c.if-not-length_good.false;
+      second = said_yes c.records_good.ensures c.if-not-records_good.false;
+      third = said_yes c.yards_good.ensures c.if-not-yards_good.false;
       fourth = said_yes c.hauls_good.ensures c.if-not-hauls_good.false;
     })

@@ -17,4 +17,4 @@ returns-in-72 c = rw c.in-72.is
 
 pub returns-in_default : goal.returns-in_default
 unfolding well_formed
-returns-in_default c = simp (ne_eqb _ _ c.in_default.rest.1, ne_eqb _ _ c.in_default.rest.0.1)
+returns-in_default c = simp (ne_eqb _ _ c.in_default.in_default-own.rest.1, ne_eqb _ _ c.in_default.in_default-own.rest.0.1)

@@ -1,10 +1,10 @@
 use Prim.Native.Nat.{◌-◌}
 use native.Mathlib.Omega.{arith}
 use mathlib.Core.Path.{◌≡◌, ◌∙◌}
-use mathlib.Core.Logic.{⊎_elim}
 use Rattle.model.proofs.SumLaws.{sum_none}
 use Rattle.tables.proofs.LentTableLaws.{counts_high, counts_low}
 use Rattle.tables.proofs.high_count.Goals as goal
+use Rattle.tables.proofs.high_count.Goals.{then-service-k-gt-MOST_ENTRY, else-service-k-gt-MOST_ENTRY}
 
 pub loop-k-init : goal.loop-k-init
 loop-k-init c = (omega arith, sum_none _)
@@ -29,8 +29,10 @@ pub loop-k-preserved : goal.loop-k-preserved
 loop-k-preserved c = let service = c.args.service.now in
     let l = c.loop-k in (
       omega arith,
-      ⊎_elim (λ w. w.1 ∙ (counts_high service l.k _ l.invariant.1 w.0.taken).0)
-          (λ w. w.1 ∙ counts_low service l.k _ l.invariant.1 w.0.left) c.if-service-k-gt-MOST_ENTRY.branch,
+      elim c.if-service-k-gt-MOST_ENTRY.branch [
+        then-service-k-gt-MOST_ENTRY w ↦ w.total-is ∙ (counts_high service l.k _ l.invariant.1 w.if-service-k-gt-MOST_ENTRY.true).0
+        | else-service-k-gt-MOST_ENTRY w ↦ w.total-is ∙ counts_low service l.k _ l.invariant.1 w.if-service-k-gt-MOST_ENTRY.false
+      ],
     )
 
 pub returns : goal.returns
