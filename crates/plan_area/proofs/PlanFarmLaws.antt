@@ -1,6 +1,6 @@
 -- Where a farm is sent can be read off its record of kind 41 again: to the nearest open yard, among equals to the one of lower fee, and
 -- only then to the lower number (demand 2, and document 02's paper 1).
-use Prim.Native.Nat.{ℕ, suc, ◌+◌, ◌*◌, ◌≤◌, ◌<◌}
+use Prim.Native.Nat.{ℕ, zero, suc, ◌+◌, ◌*◌, ◌≤◌, ◌<◌}
 use native.Mathlib.Nat.{add-zero}
 use native.Mathlib.Omega.{arith}
 use mathlib.Core.Path.{◌≡◌, refl, sym, ap, ap₂, ◌∙◌}
@@ -37,6 +37,7 @@ pub record SentTo (I : Instance) (byte3 : ℕ → ℕ) (set j : ℕ) (r : Record
 module _ (I : Instance) (byte3 : ℕ → ℕ) (set : ℕ) where
   farm_at_lem : (n j : ℕ) → j < n → record_at (join n (farm_record I byte3 set)) j ≡ record_at (farm_record I byte3 set j) 0
   unfolding join
+  farm_at_lem zero j l = elim l [ ]
   farm_at_lem (suc n) j l =
       elim (last_or l) [
         | inl e ↦ rw e (ap (record_at _) (sym (add-zero n)) ∙ record_behind (join n (farm_record I byte3 set)) (farm_record I byte3 set n) n 0 (farms_length I set byte3 n))

@@ -10,17 +10,4 @@ returns c = let planned = c.limited_plan_by-limited_plan in
     let k = c.args.k in
     let area = planned.new.1.1.1.1.0 in
     let bits = subst KeepsBits (sym planned.ensures.answer) (limited_by_within _ _ _ _ _) in
-    let told = rw (← c.choice_of.ensures) (
-      c.plan_number.ensures ∙ ap result_number planned.ensures.answer,
-      (
-        planned.ensures.area.0,
-        (
-          of_written_by _ _ _ _ area (λ h. OfSize h k) planned.result bits c.plan_number.ensures planned.ensures.area.1.0,
-          (
-            of_written_by _ _ _ _ area NoLimitedMove planned.result bits c.plan_number.ensures planned.ensures.area.1.1.0,
-            of_written_by _ _ _ _ area (λ h. BoundedByRivalsOf h k) planned.result bits c.plan_number.ensures planned.ensures.area.1.1.1,
-          ),
-        ),
-      ),
-    ) in
-    record { answer = told.0; area = told.1.0; sized = told.1.1.0; settled = told.1.1.1.0; bounded = told.1.1.1.1 }
+    record { answer = rw (← c.choice_of.ensures) (c.plan_number.ensures ∙ ap result_number planned.ensures.answer); area = rw (← c.choice_of.ensures) planned.ensures.area.0; sized = rw (← c.choice_of.ensures) (of_written_by _ _ _ _ area (λ h. OfSize h k) planned.result bits c.plan_number.ensures planned.ensures.area.1.0); settled = rw (← c.choice_of.ensures) (of_written_by _ _ _ _ area NoLimitedMove planned.result bits c.plan_number.ensures planned.ensures.area.1.1.0); bounded = rw (← c.choice_of.ensures) (of_written_by _ _ _ _ area (λ h. BoundedByRivalsOf h k) planned.result bits c.plan_number.ensures planned.ensures.area.1.1.1) }

@@ -19,5 +19,4 @@ pub returns : goal.returns
 returns c = let start = c.args in
     let b = farm_begins start.sheet.now start.farm in
     let is = ap length c.farm_hauls-bytes.ensures in
-    let told = rw (is, ← b.by_length) (refl, b.hauls_there) in
-    record { from = told.0; hauls = told.1 }
+    record { from = rw (is, ← b.by_length) refl; hauls = rw (is, ← b.by_length) b.hauls_there }

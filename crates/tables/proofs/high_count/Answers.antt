@@ -30,7 +30,7 @@ loop-k-preserved c = let service = c.args.service.now in
     let l = c.loop-k in (
       omega arith,
       elim c.if-service-k-gt-MOST_ENTRY.branch [
-        then-service-k-gt-MOST_ENTRY w ↦ w.total-is ∙ (counts_high service l.k _ l.invariant.1 w.if-service-k-gt-MOST_ENTRY.true).0
+        | then-service-k-gt-MOST_ENTRY w ↦ w.total-is ∙ (counts_high service l.k _ l.invariant.1 w.if-service-k-gt-MOST_ENTRY.true).0
         | else-service-k-gt-MOST_ENTRY w ↦ w.total-is ∙ counts_low service l.k _ l.invariant.1 w.if-service-k-gt-MOST_ENTRY.false
       ],
     )

@@ -15,7 +15,7 @@ overflow_cast-near c = let part = c.farm_stretch-hauls.ensures in
 
 pub overflow_mul-result : goal.overflow_mul-result
 overflow_mul-result c = let near = c.nearest_listed-near in
-    let small = loads_small _ c.at-byte3.result.byte3 near.result.haul c.loads_of.ensures (omega (arith, c.at-byte3.type_inv)) (omega (arith, near.type-inv)) in
+    let small = loads_small _ c.at-byte3.result.byte3 near.result.haul c.loads_of.ensures (omega (arith, c.at-byte3.type_inv)) (omega (arith, near.type_inv)) in
     record { fits = lt_of_le_of_lt small (omega arith) }
 
 pub returns : goal.returns

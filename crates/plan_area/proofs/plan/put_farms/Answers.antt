@@ -23,7 +23,7 @@ loop-farm-smaller c = omega arith
 
 pub loop-farm-preserved : goal.loop-farm-preserved
 loop-farm-preserved c = let put = c.put_farm-cost in
-    (omega arith, served_more _ _ _ _ _ _ _ _ _ _ _ (omega arith) c.loop-farm.invariant.1 put.ensures.exact put.ensures.small.0 put.ensures.small.1)
+    (omega arith, served_more _ _ _ _ _ _ _ _ _ _ _ (omega arith) c.loop-farm.invariant.1 put.ensures.exact put.ensures.small put.ensures.area)
 
 pub returns : goal.returns
 returns c = let told = served_all _ _ _ _ _ _ _ _ _ (omega arith) c.loop-farm.invariant.1 in

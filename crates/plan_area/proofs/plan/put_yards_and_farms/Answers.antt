@@ -31,11 +31,11 @@ put_farms-hauls-requires c = let known = c.requires in
 
 pub overflow_add-result : goal.overflow_add-result
 overflow_add-result c = let opens = c.put_opens-fees in
-    omega (arith, c.requires.0.few_yards, c.requires.0.few_farms, opens.ensures.small.0, c.put_farms-hauls.ensures.small.0)
+    omega (arith, c.requires.0.few_yards, c.requires.0.few_farms, opens.ensures.small, c.put_farms-hauls.ensures.small)
 
 pub returns : goal.returns
 returns c = let farms = c.put_farms-hauls in
     let opens = c.put_opens-fees in
     let known = c.requires in
     let opened = part_count _ _ _ c.members_below-open.ensures known.0.few_yards in
-    record { open = opened; cost = total_is _ _ _ _ _ _ opens.ensures.exact farms.ensures.exact; area = body_is _ _ _ _ _ _ _ _ opened (omega arith) opens.ensures.small.1 farms.ensures.small.1 }
+    record { «open» = opened; cost = total_is _ _ _ _ _ _ opens.ensures.exact farms.ensures.exact; area = body_is _ _ _ _ _ _ _ _ opened (omega arith) opens.ensures.area farms.ensures.area }

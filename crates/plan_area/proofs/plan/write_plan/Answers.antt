@@ -7,8 +7,7 @@ use Rattle.plan_area.proofs.PlanRecordLaws.{fits_says, few_records, fits_shape, 
 use Rattle.plan_area.proofs.plan.write_plan.Goals as goal
 
 pub returns-then-not-plan_fits : goal.returns-then-not-plan_fits
-returns-then-not-plan_fits c = let told = rw (writes_none _ _ _ _ _ _ _ (said_no c.plan_fits.ensures c.if-not-plan_fits.true)) (omega arith, sym (splice_none _ _)) in
-    record { bytes = told.0; area = told.1 }
+returns-then-not-plan_fits c = record { bytes = rw (writes_none _ _ _ _ _ _ _ (said_no c.plan_fits.ensures c.if-not-plan_fits.true)) (omega arith); area = rw (writes_none _ _ _ _ _ _ _ (said_no c.plan_fits.ensures c.if-not-plan_fits.true)) (sym (splice_none _ _)) }
 
 pub overflow_mul-farms : goal.overflow_mul-farms
 overflow_mul-farms c = omega (arith, few_records _ _ _ (said_yes c.plan_fits.ensures c.if-not-plan_fits.false))
@@ -20,8 +19,7 @@ pub overflow_mul-yards : goal.overflow_mul-yards
 overflow_mul-yards c = omega (arith, few_records _ _ _ (said_yes c.plan_fits.ensures c.if-not-plan_fits.false))
 
 pub returns-then-sheet-yards : goal.returns-then-sheet-yards
-returns-then-sheet-yards c = let told = rw (writes_short _ _ _ _ _ _ _ (said_yes c.plan_fits.ensures c.if-not-plan_fits.false) c.if-sheet-yards.true) (omega arith, sym (splice_none _ _)) in
-    record { bytes = told.0; area = told.1 }
+returns-then-sheet-yards c = record { bytes = rw (writes_short _ _ _ _ _ _ _ (said_yes c.plan_fits.ensures c.if-not-plan_fits.false) c.if-sheet-yards.true) (omega arith); area = rw (writes_short _ _ _ _ _ _ _ (said_yes c.plan_fits.ensures c.if-not-plan_fits.false) c.if-sheet-yards.true) (sym (splice_none _ _)) }
 
 pub put_yards_and_farms-totals-requires : goal.put_yards_and_farms-totals-requires
 put_yards_and_farms-totals-requires c = let fits = said_yes c.plan_fits.ensures c.if-not-plan_fits.false in
@@ -34,6 +32,6 @@ put_total_and_moves-requires c = let fits = said_yes c.plan_fits.ensures c.if-no
 
 pub returns : goal.returns
 returns c = let fits = said_yes c.plan_fits.ensures c.if-not-plan_fits.false in
-    let told = writes_all _ _ _ _ _ _ _ _ _ _ _ _ _ fits c.if-sheet-yards.false c.put_yards_and_farms-totals.ensures.open c.put_yards_and_farms-totals.ensures.cost.0 c.amount_of-amount.ensures c.put_yards_and_farms-totals.ensures.cost.1
+    let told = writes_all _ _ _ _ _ _ _ _ _ _ _ _ _ fits c.if-sheet-yards.false c.put_yards_and_farms-totals.ensures.open c.put_yards_and_farms-totals.ensures.cost c.amount_of-amount.ensures c.put_yards_and_farms-totals.ensures.area
     c.put_total_and_moves.ensures.next c.put_total_and_moves.ensures.area in
     record { bytes = told.0; area = told.1 }
