@@ -7,4 +7,4 @@ pub returns-in-72 : goal.returns-in-72
 returns-in-72 c = sym (distance_haul _ c.in-72.is)
 
 pub returns-in_default : goal.returns-in_default
-returns-in_default c = sym (distance_other _ c.in_default.rest.1)
+returns-in_default c = sym (distance_other _ c.in_default.in_default-own.rest.1)

@@ -24,7 +24,7 @@ put_block-requires c = let found = c.bands_of-bands in
       omega (arith, c.requires.0),
       omega (arith, c.requires.0),
       c.requires.3,
-      all_taken a.by a.sheet.now a.from a.count took.new.1.1.1.1.0 found.result c.requires.0
+      all_taken a.by a.sheet.now a.from a.count took.new.distances found.result c.requires.0
           (took.ensures.taken c.if-not-take_distances.false) (said_yes took.ensures.within c.if-not-take_distances.false) found.ensures,
     )
 
