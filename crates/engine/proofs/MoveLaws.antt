@@ -1,6 +1,6 @@
 -- Laws of the moves: a set with its cost, against lists of moves one after the other.
 -- Idea: what stands after a list and then another is the best of both in a row, and a loop over moves passes a join of lists.
-use Prim.Native.Nat.{ℕ, zero, suc, ◌+◌, ◌≤◌, ◌<◌}
+use Prim.Native.Nat.{ℕ, zero, suc, ◌≤◌, ◌<◌}
 use native.Mathlib.Nat.{le_step, lt-suc_self}
 use native.Mathlib.Decide.{dec_lt}
 use native.Mathlib.Omega.{arith}

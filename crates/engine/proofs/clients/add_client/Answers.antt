@@ -27,4 +27,4 @@ returns c = let a = c.args in
     let after = c.inserted-after in
     let is = near_joined a.m a.service.now a.kept.now a.set a.next a.came a.j _ after.result pre.0.rows.few_facilities pre.3
     pre.2 c.arrival-arrived.ensures after.ensures in
-    record { kept = answer.0; near = near_put a.m a.service.now _ _ a.j a.next after.result is answer.1; others = answer.1.others }
+    record { kept = answer.kept; near = near_put a.m a.service.now _ _ a.j a.next after.result is answer.put; others = answer.put.others }

@@ -9,4 +9,9 @@ enter-requires c = let a = c.args in
 pub returns : goal.returns
 returns c = let answer = c.enter.ensures in
     let a = c.args in
-    record { kept = answer.0; near = near_put a.m a.service.now _ _ a.j a.set c.near_of-near.result c.near_of-near.ensures answer.1; others = answer.1.others }
+    let near = c.near_of-near in
+    record {
+      kept = answer.kept;
+      near = near_put a.m a.service.now _ _ a.j a.set near.result near.ensures answer.put;
+      others = answer.put.others;
+    }

@@ -35,4 +35,9 @@ change-requires c = let a = c.args in
 pub returns : goal.returns
 returns c = let answer = c.change.ensures in
     let a = c.args in
-    record { kept = answer.0; near = near_put a.m a.service.now _ _ a.j a.next c.near_after-after.result c.near_after-after.ensures answer.1; others = answer.1.others }
+    let after = c.near_after-after in
+    record {
+      kept = answer.kept;
+      near = near_put a.m a.service.now _ _ a.j a.next after.result after.ensures answer.put;
+      others = answer.put.others;
+    }

@@ -1,4 +1,4 @@
-use Prim.Native.Nat.{ℕ, ◌-◌}
+use Prim.Native.Nat.{ℕ}
 use native.Mathlib.Nat.{le_refl}
 use mathlib.Core.Path.{◌≡◌, refl, subst, ◌∙◌}
 use native.Mathlib.Omega.{arith}
@@ -24,9 +24,9 @@ loop-j-preserved c = let l = c.loop-j in
     let a = c.args in
     let e = c.move_client.ensures in (
       omega arith,
-      e.0,
-      moved_more a.m a.service.now l.auto _ l.j a.n l.invariant.1.rows.few_clients (omega arith) e.1.1 a.set a.next
-          l.invariant.2 e.1.0,
+      e.kept,
+      moved_more a.m a.service.now l.kept _ l.j a.n l.invariant.1.rows.few_clients (omega arith) e.others a.set a.next
+          l.invariant.2 e.near,
       c.move_client.auto.kept ∙ l.invariant.3,
     )
 
@@ -34,4 +34,4 @@ pub returns : goal.returns
 returns c = let l = c.loop-j in
     let a = c.args in
     let e : l.j ≡ a.n = omega arith in
-    record { kept = l.invariant.1; near = subst (λ (j : ℕ). NearFrom a.m a.n a.service.now l.auto a.set a.next j) e l.invariant.2 }
+    record { kept = l.invariant.1; near = subst (λ (j : ℕ). NearFrom a.m a.n a.service.now l.kept a.set a.next j) e l.invariant.2 }

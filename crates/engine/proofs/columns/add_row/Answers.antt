@@ -1,5 +1,4 @@
 use mathlib.Core.Path.{◌≡◌, refl}
-use Prim.Native.Nat.{◌-◌}
 use native.Mathlib.Omega.{arith}
 use lib.ListN.{length-set}
 use Rattle.engine.proofs.columns.ColumnLaws.{row_added_none, sum_small, row_added_more}
@@ -33,7 +32,7 @@ pub overflow_add-kept-in-loop-i-2 : goal.overflow_add-kept-in-loop-i-2
 overflow_add-kept-in-loop-i-2 c = let l = c.loop-i in
     let a = c.args in
     record {
-      fits = sum_small a.service.now a.row a.kept.now a.width l.i l.auto (omega arith) c.requires l.invariant.2;
+      fits = sum_small a.service.now a.row a.kept.now a.width l.i l.kept (omega arith) c.requires l.invariant.2;
     }
 
 pub overflow_add-kept-in-loop-i-3 : goal.overflow_add-kept-in-loop-i-3
@@ -56,7 +55,7 @@ loop-i-preserved c = let a = c.args in
     let l = c.loop-i in (
       omega arith,
       simp length-set l.invariant.1,
-      row_added_more a.service.now a.row a.kept.now l.i l.auto (omega arith) l.invariant.2,
+      row_added_more a.service.now a.row a.kept.now l.i l.kept (omega arith) l.invariant.2,
     )
 
 pub returns : goal.returns

@@ -1,15 +1,10 @@
-use Rattle.engine.proofs.MoveLaws.{widens8}
 use Rattle.engine.proofs.BestMoveLaws.{openings_none, openings_more}
-use Prim.Native.Nat.{◌-◌}
 use native.Mathlib.Omega.{arith}
 use mathlib.Core.Path.{◌≡◌}
 use Rattle.engine.proofs.cost.openings_of.Goals as goal
 
 pub loop-t-init : goal.loop-t-init
 loop-t-init c = (omega arith, omega arith, openings_none _ _)
-
-pub overflow_cast-total : goal.overflow_cast-total
-overflow_cast-total c = widens8 (c.shared_slice_known-1.given _)
 
 pub offset_bounds-opening-list : goal.offset_bounds-opening-list
 offset_bounds-opening-list c = omega (arith, c.requires.below c.loop-t.t c.loop-t-test.true)

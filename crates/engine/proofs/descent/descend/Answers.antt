@@ -15,7 +15,8 @@ cost_now-requires c = (c.begin.ensures, c.requires.2)
 
 pub loop-neighbourhood-init : goal.loop-neighbourhood-init
 loop-neighbourhood-init c = let a = c.args in
-    (going_starts (table_cost a.m a.n a.opening.now a.service.now) (neighbours_by a.neighbourhood a.m) a.limit a.start _ c.cost_now.ensures, c.begin.ensures, refl)
+    let cost = table_cost a.m a.n a.opening.now a.service.now in
+    (going_starts cost (neighbours_by a.neighbourhood a.m) a.limit a.start _ c.cost_now.ensures, c.begin.ensures, refl)
 
 pub choose-next-requires : goal.choose-next-requires
 choose-next-requires c = let l = c.loop-neighbourhood in
@@ -38,18 +39,24 @@ loop-neighbourhood-smaller c = c.if-cost-lowest.false
 
 pub loop-neighbourhood-preserved : goal.loop-neighbourhood-preserved
 loop-neighbourhood-preserved c = let a = c.args in
+    let cost = table_cost a.m a.n a.opening.now a.service.now in
+    let moves = neighbours_by a.neighbourhood a.m in
     let l = c.loop-neighbourhood in (
-      going_on (table_cost a.m a.n a.opening.now a.service.now) (neighbours_by a.neighbourhood a.m) a.limit a.start l.b _ _ l.invariant.0 c.choose-next.ensures c.if-cost-lowest.false c.if-limit-moves.false,
+      going_on cost moves a.limit a.start l.b _ _ l.invariant.0 c.choose-next.ensures c.if-cost-lowest.false c.if-limit-moves.false,
       c.move_to.ensures,
-      c.move_to.auto.kept2 ∙ l.invariant.2,
+      c.move_to.auto.kept ∙ l.invariant.2,
     )
 
 pub returns-then-cost-lowest : goal.returns-then-cost-lowest
 returns-then-cost-lowest c = let a = c.args in
     let l = c.loop-neighbourhood in
-    going_settles (table_cost a.m a.n a.opening.now a.service.now) (neighbours_by a.neighbourhood a.m) a.limit a.start l.b _ _ l.invariant.0 c.choose-next.ensures c.if-cost-lowest.true
+    let cost = table_cost a.m a.n a.opening.now a.service.now in
+    let moves = neighbours_by a.neighbourhood a.m in
+    going_settles cost moves a.limit a.start l.b _ _ l.invariant.0 c.choose-next.ensures c.if-cost-lowest.true
 
 pub returns-then-limit-moves : goal.returns-then-limit-moves
 returns-then-limit-moves c = let a = c.args in
     let l = c.loop-neighbourhood in
-    going_stops (table_cost a.m a.n a.opening.now a.service.now) (neighbours_by a.neighbourhood a.m) a.limit a.start l.b _ _ l.invariant.0 c.choose-next.ensures c.if-cost-lowest.false c.if-limit-moves.true
+    let cost = table_cost a.m a.n a.opening.now a.service.now in
+    let moves = neighbours_by a.neighbourhood a.m in
+    going_stops cost moves a.limit a.start l.b _ _ l.invariant.0 c.choose-next.ensures c.if-cost-lowest.false c.if-limit-moves.true

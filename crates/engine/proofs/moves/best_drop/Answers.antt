@@ -1,5 +1,3 @@
-use Rattle.engine.proofs.MoveLaws.{widens8}
-use Prim.Native.Nat.{◌-◌}
 use native.Mathlib.Omega.{arith}
 use mathlib.Core.Path.{◌≡◌}
 use borrow.Author.Tests.{lt-ltb, le-ltb}
@@ -14,9 +12,6 @@ returns-then-count-lt2 c = rw (lt-ltb c.args.count 2 (omega arith))
 
 pub loop-t-init : goal.loop-t-init
 loop-t-init c = (omega arith, through_none _ _)
-
-pub overflow_cast-o : goal.overflow_cast-o
-overflow_cast-o c = widens8 (c.shared_slice_known-in-loop-t-1.given _)
 
 pub overflow_add-price : goal.overflow_add-price
 overflow_add-price c = omega (arith, c.requires.0.below c.loop-t.t c.loop-t-test.true)

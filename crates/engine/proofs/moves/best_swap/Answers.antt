@@ -1,17 +1,12 @@
-use Prim.Native.Nat.{◌-◌}
 use native.Mathlib.Omega.{arith}
 use mathlib.Core.Path.{◌≡◌}
 use Rattle.model.proofs.PassingLaws.{through_none}
 use Rattle.engine.specs.Moves.{best_swap}
-use Rattle.engine.proofs.MoveLaws.{widens8}
 use Rattle.engine.proofs.BestMoveLaws.{out_falls, rows_more}
 use Rattle.engine.proofs.moves.best_swap.Goals as goal
 
 pub loop-t-init : goal.loop-t-init
 loop-t-init c = (omega arith, omega arith, through_none _ _)
-
-pub overflow_cast-o : goal.overflow_cast-o
-overflow_cast-o c = widens8 (c.shared_slice_known-in-loop-t-1.given _)
 
 pub offset_bounds-opening-o : goal.offset_bounds-opening-o
 offset_bounds-opening-o c = omega (arith, (c.requires.0.rows c.loop-t.t c.loop-t-test.true).below)

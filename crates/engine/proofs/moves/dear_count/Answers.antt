@@ -1,4 +1,3 @@
-use Prim.Native.Nat.{◌-◌}
 use native.Mathlib.Omega.{arith}
 use mathlib.Core.Path.{◌≡◌, refl}
 use Rattle.model.proofs.SumLaws.{sum_none}
@@ -41,7 +40,8 @@ unfolding dear_at
 overflow_add-total-in-loop-i-3 c = let a = c.args in
     let l = c.loop-i in
     let S = dear_at a.more.now a.at a.costs.now a.bound in
-    let next = counts_on S _ l.i _ l.invariant.1 (lifted _ a.bound _ (omega (arith, c.requires.0.more_small l.i c.loop-i-test.true, c.requires.0.costs_small l.i c.loop-i-test.true)) c.requires.1 refl) in
+    let next = counts_on S _ l.i _ l.invariant.1 (lifted _ a.bound _
+    (omega (arith, c.requires.0.more_small l.i c.loop-i-test.true, c.requires.0.costs_small l.i c.loop-i-test.true)) c.requires.1 refl) in
     omega (arith, next.1)
 
 pub overflow_add-i : goal.overflow_add-i
@@ -55,7 +55,8 @@ unfolding dear_at
 loop-i-preserved c = let a = c.args in
     let l = c.loop-i in
     let S = dear_at a.more.now a.at a.costs.now a.bound in
-    let next = counts_on S _ l.i _ l.invariant.1 (lifted _ a.bound _ (omega (arith, c.requires.0.more_small l.i c.loop-i-test.true, c.requires.0.costs_small l.i c.loop-i-test.true)) c.requires.1 refl) in
+    let next = counts_on S _ l.i _ l.invariant.1 (lifted _ a.bound _
+    (omega (arith, c.requires.0.more_small l.i c.loop-i-test.true, c.requires.0.costs_small l.i c.loop-i-test.true)) c.requires.1 refl) in
     (omega arith, next.0)
 
 pub returns : goal.returns

@@ -1,12 +1,12 @@
-use Prim.Native.Nat.{◌-◌}
 use native.Mathlib.Omega.{arith}
 use mathlib.Core.Path.{◌≡◌, sym, ◌∙◌}
-use mathlib.Core.Logic.{⊎_elim}
+use mathlib.Core.Bool.{true}
 use Rattle.model.proofs.Bools.{said_no, said_yes}
 use Rattle.model.proofs.LoopLaws.{leading_none, leading_more, leading_stops}
 use Rattle.engine.specs.Near.{new_in}
 use Rattle.engine.proofs.MovedLaws.{old, new_stops, old_in, old_out}
 use Rattle.engine.proofs.near.newcomer.Goals as goal
+use Rattle.engine.proofs.near.newcomer.Goals.{else-has-via-then-has+else-not-has, else-has-via-else-has}
 
 pub loop-i-init : goal.loop-i-init
 loop-i-init c = (omega arith, leading_none _)
@@ -27,10 +27,10 @@ loop-i-smaller c = omega arith
 pub loop-i-preserved : goal.loop-i-preserved
 loop-i-preserved c = let l = c.loop-i in
     let a = c.args in
-    let passes =
-    ⊎_elim (λ w. old_in a.before a.after l.i (said_yes w.1.ensures w.2.left))
-    (λ w. old_out a.before a.after l.i (sym c.has.ensures ∙ w.left)) c.else-has.branch
-    in
+    let passes : old a.before a.after l.i ≡ true = elim c.else-has.branch [
+      | else-has-via-then-has+else-not-has w ↦ old_in a.before a.after l.i (said_yes w.has-then-has.ensures w.if-not-has.false)
+      | else-has-via-else-has w ↦ old_out a.before a.after l.i (sym c.has.ensures ∙ w.if-has.false)
+    ] in
     (omega arith, leading_more (old a.before a.after) l.i l.invariant.1 passes)
 
 pub returns : goal.returns

@@ -1,10 +1,12 @@
-use Prim.Native.Nat.{◌-◌, min}
+use Prim.Native.Nat.{min}
 use native.Mathlib.Omega.{arith}
 use mathlib.Core.Path.{◌≡◌, ◌∙◌}
-use mathlib.Core.Logic.{⊎_elim}
 use Rattle.model.proofs.SetLaws.{member_below}
+use Rattle.model.proofs.PackedLaws.{other_than}
+use Rattle.engine.specs.Bounds.{no_facility}
 use Rattle.engine.proofs.NearLaws.{place, place_room, least_none, least_more, least_all, other_first, other_else}
 use Rattle.engine.proofs.near.second_of.Goals as goal
+use Rattle.engine.proofs.near.second_of.Goals.{then-x-first, else-x-first, then-other-least, else-other-least}
 
 pub loop-t-init : goal.loop-t-init
 loop-t-init c = let a = c.args in
@@ -32,11 +34,14 @@ loop-t-preserved c = let a = c.args in
     let x = c.packed_at-x in
     let other = c.if-x-first.other in
     let r = place _ _ _ c.requires.3 c.requires.4 _ c.loop-t-test.true in
-    let other-is =
-    ⊎_elim (λ w. other_first a.first x.result other w.0.taken w.1) (λ w. other_else a.first x.result other w.0.left w.1)
-    c.if-x-first.branch
-    in
-    let lesser : c.if-other-least.least ≡ min other l.least = ⊎_elim (λ w. omega (arith, w.0.taken, w.1)) (λ w. omega (arith, w.0.left, w.1)) c.if-other-least.branch in (
+    let other-is : other ≡ other_than no_facility a.first x.result = elim c.if-x-first.branch [
+      | then-x-first w ↦ other_first a.first x.result other w.if-x-first.true w.other-is
+      | else-x-first w ↦ other_else a.first x.result other w.if-x-first.false w.other-is
+    ] in
+    let lesser : c.if-other-least.least ≡ min other l.least = elim c.if-other-least.branch [
+      | then-other-least w ↦ omega (arith, w.if-other-least.true, w.least-is)
+      | else-other-least w ↦ omega (arith, w.if-other-least.false, w.least-is)
+    ] in (
       omega arith,
       lesser ∙ least_more a.m a.service.now a.set a.j a.first _ _ _ _ l.least r l.invariant.1 x.ensures other-is,
     )
