@@ -11,30 +11,30 @@ use borrow.Author.Rules.{rules}
 use Rattle.by_tariff.proofs.limited_plan_by.Goals as goal
 
 pub slice_bounds-hauls-end : goal.slice_bounds-hauls-end
-slice_bounds-hauls-end c = part_within _ _ c.hauls_by.auto.hauls2 _ _ c.in-Priced.is c.hauls_by.ensures.room
+slice_bounds-hauls-end c = part_within _ _ c.hauls_by.auto.hauls _ _ c.in-Priced.is c.hauls_by.ensures.room
 
 pub slice_bounds-limited_plan-end : goal.slice_bounds-limited_plan-end
-slice_bounds-limited_plan-end c = part_length _ _ c.hauls_by.auto.hauls2 _ _ c.in-Priced.is c.hauls_by.ensures.room _ refl
+slice_bounds-limited_plan-end c = part_length _ _ c.hauls_by.auto.hauls _ _ c.in-Priced.is c.hauls_by.ensures.room _ refl
 
 pub returns-in-AsWritten : goal.returns-in-AsWritten
 unfolding limited_planning_by
 returns-in-AsWritten c = let a = c.args in
     let planned = c.limited_plan in
-    let next = planned.new.1.1.0 in
+    let next = planned.new.area in
     let told = c.hauls_by.ensures.hauls in
     let both = as_outcome (as_written _ _ _ _ (search rules) _ _ told (λ h. limited_planning h a.k (length a.area.now)) c.in-AsWritten.is)
-    planned.result _ _ (planned.ensures.answer, planned.ensures.area.0) in
-    record { answer = both.0; area = both.1; sized = on_written _ _ _ _ (search rules) _ _ told (λ h. LimitedPlanSized h a.k planned.result next) c.in-AsWritten.is planned.ensures.area.1.0; settled = on_written _ _ _ _ (search rules) _ _ told (λ h. LimitedPlanSettled h planned.result next) c.in-AsWritten.is planned.ensures.area.1.1.0; bounded = on_written _ _ _ _ (search rules) _ _ told (λ h. LimitedPlanBounded h a.k planned.result next) c.in-AsWritten.is planned.ensures.area.1.1.1 }
+    planned.result _ _ (planned.ensures.answer, planned.ensures.area) in
+    record { answer = both.0; area = both.1; sized = on_written _ _ _ _ (search rules) _ _ told (λ h. LimitedPlanSized h a.k planned.result next) c.in-AsWritten.is planned.ensures.sized; settled = on_written _ _ _ _ (search rules) _ _ told (λ h. LimitedPlanSettled h planned.result next) c.in-AsWritten.is planned.ensures.settled; bounded = on_written _ _ _ _ (search rules) _ _ told (λ h. LimitedPlanBounded h a.k planned.result next) c.in-AsWritten.is planned.ensures.bounded }
 
 pub returns-in-Priced : goal.returns-in-Priced
 unfolding limited_planning_by
 returns-in-Priced c = let a = c.args in
     let planned = c.limited_plan-in-Priced in
-    let next = planned.new.1.1.0 in
+    let next = planned.new.area in
     let told = c.hauls_by.ensures.hauls in
     let both = as_outcome (as_priced _ _ _ _ (search rules) _ _ told (λ h. limited_planning h a.k (length a.area.now)) (limited_first a.k (length a.area.now)) _ c.in-Priced.is)
-    planned.result _ _ (planned.ensures.answer, planned.ensures.area.0) in
-    record { answer = both.0; area = both.1; sized = on_priced _ _ _ _ (search rules) _ _ told (λ h. LimitedPlanSized h a.k planned.result next) _ c.in-Priced.is planned.ensures.area.1.0; settled = on_priced _ _ _ _ (search rules) _ _ told (λ h. LimitedPlanSettled h planned.result next) _ c.in-Priced.is planned.ensures.area.1.1.0; bounded = on_priced _ _ _ _ (search rules) _ _ told (λ h. LimitedPlanBounded h a.k planned.result next) _ c.in-Priced.is planned.ensures.area.1.1.1 }
+    planned.result _ _ (planned.ensures.answer, planned.ensures.area) in
+    record { answer = both.0; area = both.1; sized = on_priced _ _ _ _ (search rules) _ _ told (λ h. LimitedPlanSized h a.k planned.result next) _ c.in-Priced.is planned.ensures.sized; settled = on_priced _ _ _ _ (search rules) _ _ told (λ h. LimitedPlanSettled h planned.result next) _ c.in-Priced.is planned.ensures.settled; bounded = on_priced _ _ _ _ (search rules) _ _ told (λ h. LimitedPlanBounded h a.k planned.result next) _ c.in-Priced.is planned.ensures.bounded }
 
 pub returns-in-Refused : goal.returns-in-Refused
 unfolding limited_planning_by

@@ -11,30 +11,30 @@ use borrow.Author.Rules.{rules}
 use Rattle.by_tariff.proofs.open_plan_by.Goals as goal
 
 pub slice_bounds-hauls-end : goal.slice_bounds-hauls-end
-slice_bounds-hauls-end c = part_within _ _ c.hauls_by.auto.hauls2 _ _ c.in-Priced.is c.hauls_by.ensures.room
+slice_bounds-hauls-end c = part_within _ _ c.hauls_by.auto.hauls _ _ c.in-Priced.is c.hauls_by.ensures.room
 
 pub slice_bounds-open_plan-end : goal.slice_bounds-open_plan-end
-slice_bounds-open_plan-end c = part_length _ _ c.hauls_by.auto.hauls2 _ _ c.in-Priced.is c.hauls_by.ensures.room _ refl
+slice_bounds-open_plan-end c = part_length _ _ c.hauls_by.auto.hauls _ _ c.in-Priced.is c.hauls_by.ensures.room _ refl
 
 pub returns-in-AsWritten : goal.returns-in-AsWritten
 unfolding open_planning_by
 returns-in-AsWritten c = let a = c.args in
     let planned = c.open_plan in
-    let next = planned.new.1.0 in
+    let next = planned.new.area in
     let told = c.hauls_by.ensures.hauls in
     let both = as_outcome (as_written _ _ _ _ (search rules) _ _ told (λ h. open_planning h (length a.area.now)) c.in-AsWritten.is)
-    planned.result _ _ (planned.ensures.answer, planned.ensures.area.0) in
-    record { answer = both.0; area = both.1; settled = on_written _ _ _ _ (search rules) _ _ told (λ h. OpenPlanSettled h planned.result next) c.in-AsWritten.is planned.ensures.area.1.0; bounded = on_written _ _ _ _ (search rules) _ _ told (λ h. OpenPlanBounded h planned.result next) c.in-AsWritten.is planned.ensures.area.1.1 }
+    planned.result _ _ (planned.ensures.answer, planned.ensures.area) in
+    record { answer = both.0; area = both.1; settled = on_written _ _ _ _ (search rules) _ _ told (λ h. OpenPlanSettled h planned.result next) c.in-AsWritten.is planned.ensures.settled; bounded = on_written _ _ _ _ (search rules) _ _ told (λ h. OpenPlanBounded h planned.result next) c.in-AsWritten.is planned.ensures.bounded }
 
 pub returns-in-Priced : goal.returns-in-Priced
 unfolding open_planning_by
 returns-in-Priced c = let a = c.args in
     let planned = c.open_plan-in-Priced in
-    let next = planned.new.1.0 in
+    let next = planned.new.area in
     let told = c.hauls_by.ensures.hauls in
     let both = as_outcome (as_priced _ _ _ _ (search rules) _ _ told (λ h. open_planning h (length a.area.now)) (open_first (length a.area.now)) _ c.in-Priced.is)
-    planned.result _ _ (planned.ensures.answer, planned.ensures.area.0) in
-    record { answer = both.0; area = both.1; settled = on_priced _ _ _ _ (search rules) _ _ told (λ h. OpenPlanSettled h planned.result next) _ c.in-Priced.is planned.ensures.area.1.0; bounded = on_priced _ _ _ _ (search rules) _ _ told (λ h. OpenPlanBounded h planned.result next) _ c.in-Priced.is planned.ensures.area.1.1 }
+    planned.result _ _ (planned.ensures.answer, planned.ensures.area) in
+    record { answer = both.0; area = both.1; settled = on_priced _ _ _ _ (search rules) _ _ told (λ h. OpenPlanSettled h planned.result next) _ c.in-Priced.is planned.ensures.settled; bounded = on_priced _ _ _ _ (search rules) _ _ told (λ h. OpenPlanBounded h planned.result next) _ c.in-Priced.is planned.ensures.bounded }
 
 pub returns-in-Refused : goal.returns-in-Refused
 unfolding open_planning_by

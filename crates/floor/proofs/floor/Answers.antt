@@ -27,7 +27,7 @@ add_offers-sum-requires c = let shape = shape_of (accepts _ _ _ (sym c.read.ensu
 
 pub fees_cover-requires : goal.fees_cover-requires
 fees_cover-requires c = let shape = shape_of (accepts _ _ _ (sym c.read.ensures ∙ ap reading_answer c.in-Accepted.is)).has in
-    (omega (arith, shape.room), omega (arith, shape.few_yards, c.add_offers-sum.auto.excess2))
+    (omega (arith, shape.room), omega (arith, shape.few_yards, c.add_offers-sum.auto.excess))
 
 pub returns-then-not-fees_cover : goal.returns-then-not-fees_cover
 returns-then-not-fees_cover c = let e = sym c.read.ensures ∙ ap reading_answer c.in-Accepted.is in

@@ -7,10 +7,10 @@ use borrow.Author.Rules.{rules}
 use Rattle.floor_by.proofs.floor_by.Goals as goal
 
 pub slice_bounds-hauls-end : goal.slice_bounds-hauls-end
-slice_bounds-hauls-end c = part_within _ _ c.hauls_by.auto.hauls2 _ _ c.in-Priced.is c.hauls_by.ensures.room
+slice_bounds-hauls-end c = part_within _ _ c.hauls_by.auto.hauls _ _ c.in-Priced.is c.hauls_by.ensures.room
 
 pub slice_bounds-floor-end : goal.slice_bounds-floor-end
-slice_bounds-floor-end c = part_length _ _ c.hauls_by.auto.hauls2 _ _ c.in-Priced.is c.hauls_by.ensures.room _ refl
+slice_bounds-floor-end c = part_length _ _ c.hauls_by.auto.hauls _ _ c.in-Priced.is c.hauls_by.ensures.room _ refl
 
 pub returns-in-AsWritten : goal.returns-in-AsWritten
 returns-in-AsWritten c = let offers = c.args.offers.now in

@@ -11,26 +11,26 @@ use borrow.Author.Rules.{rules}
 use Rattle.price_by.proofs.price_by.Goals as goal
 
 pub slice_bounds-hauls-end : goal.slice_bounds-hauls-end
-slice_bounds-hauls-end c = part_within _ _ c.hauls_by.auto.hauls2 _ _ c.in-Priced.is c.hauls_by.ensures.room
+slice_bounds-hauls-end c = part_within _ _ c.hauls_by.auto.hauls _ _ c.in-Priced.is c.hauls_by.ensures.room
 
 pub slice_bounds-price-end : goal.slice_bounds-price-end
-slice_bounds-price-end c = part_length _ _ c.hauls_by.auto.hauls2 _ _ c.in-Priced.is c.hauls_by.ensures.room _ refl
+slice_bounds-price-end c = part_length _ _ c.hauls_by.auto.hauls _ _ c.in-Priced.is c.hauls_by.ensures.room _ refl
 
 pub returns-in-AsWritten : goal.returns-in-AsWritten
 unfolding pricing_by
 returns-in-AsWritten c = let a = c.args in
     let priced = c.price in
     let both = as_outcome (as_written _ _ _ _ (search rules) _ _ c.hauls_by.ensures.hauls (λ h. pricing h a.set (length a.area.now)) c.in-AsWritten.is)
-    priced.result _ _ (priced.ensures.answer, priced.ensures.area.0) in
-    record { answer = both.0; area = both.1; kept = priced.ensures.area.1 }
+    priced.result _ _ (priced.ensures.answer, priced.ensures.area) in
+    record { answer = both.0; area = both.1; kept = priced.ensures.kept }
 
 pub returns-in-Priced : goal.returns-in-Priced
 unfolding pricing_by
 returns-in-Priced c = let a = c.args in
     let priced = c.price-in-Priced in
     let both = as_outcome (as_priced _ _ _ _ (search rules) _ _ c.hauls_by.ensures.hauls (λ h. pricing h a.set (length a.area.now)) (pricing_first a.set (length a.area.now)) _ c.in-Priced.is)
-    priced.result _ _ (priced.ensures.answer, priced.ensures.area.0) in
-    record { answer = both.0; area = both.1; kept = priced.ensures.area.1 }
+    priced.result _ _ (priced.ensures.answer, priced.ensures.area) in
+    record { answer = both.0; area = both.1; kept = priced.ensures.kept }
 
 pub returns-in-Refused : goal.returns-in-Refused
 unfolding pricing_by

@@ -7,5 +7,5 @@ use Rattle.search.proofs.open_plan.Goals as goal
 pub returns : goal.returns
 returns c = let made = c.plan_with in
     let told = open_promises _ made.result c.args.area.now _
-    (as_outcome (open_planning_lem _ _) made.result _ _ made.ensures) in
+    (as_outcome (open_planning_lem _ _) made.result _ _ (made.ensures.answer, made.ensures.area)) in
     record { answer = told.0; area = told.1.0; settled = told.1.1.0; bounded = told.1.1.1 }

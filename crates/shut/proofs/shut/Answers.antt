@@ -25,19 +25,19 @@ hauls_moved-moved-requires c = shape_of (accepts _ _ _ (sym c.read.ensures ∙ a
 
 pub overflow_add-fee : goal.overflow_add-fee
 overflow_add-fee c = let few = (accepts _ _ _ (sym c.read.ensures ∙ ap reading_answer c.in-Accepted.is)).has.few_farms in
-    let small = c.hauls_moved-moved.ensures.elsewhere.1 in
+    let small = c.hauls_moved-moved.ensures.small in
     record { fits = omega (arith, c.at-fee.type_inv, small.0, small.1, few) }
 
 pub less-requires : goal.less-requires
 less-requires c = let few = (accepts _ _ _ (sym c.read.ensures ∙ ap reading_answer c.in-Accepted.is)).has.few_farms in
-    let small = c.hauls_moved-moved.ensures.elsewhere.1 in
+    let small = c.hauls_moved-moved.ensures.small in
     (omega (arith, c.at-fee.type_inv, small.0, small.1, few), omega (arith, c.at-fee.type_inv, small.0, small.1, few))
 
 pub returns-else-not-can_shut : goal.returns-else-not-can_shut
 returns-else-not-can_shut c = let e = sym c.read.ensures ∙ ap reading_answer c.in-Accepted.is in
     let marked = said_yes c.set_good.ensures c.if-not-set_good.false in
     let can = said_yes (c.can_shut.ensures ∙ left_over _ _ _ marked) c.if-not-can_shut.false in
-    let told = shut_answers _ _ _ _ (shut_told _ _ _ _ _ e marked can _ _ _ _ c.at-fee.ensures c.hauls_moved-moved.ensures.there c.hauls_moved-moved.ensures.elsewhere.0 (to_z-of_z {w = w64} (record { sfits = c.less.type_inv }) ∙ c.less.ensures)) in
+    let told = shut_answers _ _ _ _ (shut_told _ _ _ _ _ e marked can _ _ _ _ c.at-fee.ensures c.hauls_moved-moved.ensures.there c.hauls_moved-moved.ensures.elsewhere (to_z-of_z {w = w64} (record { sfits = c.less.type_inv }) ∙ c.less.ensures)) in
     record { answer = told.0; difference = told.1 }
 
 pub returns-in-Refused : goal.returns-in-Refused

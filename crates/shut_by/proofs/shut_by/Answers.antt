@@ -7,10 +7,10 @@ use borrow.Author.Rules.{rules}
 use Rattle.shut_by.proofs.shut_by.Goals as goal
 
 pub slice_bounds-hauls-end : goal.slice_bounds-hauls-end
-slice_bounds-hauls-end c = part_within _ _ c.hauls_by.auto.hauls2 _ _ c.in-Priced.is c.hauls_by.ensures.room
+slice_bounds-hauls-end c = part_within _ _ c.hauls_by.auto.hauls _ _ c.in-Priced.is c.hauls_by.ensures.room
 
 pub slice_bounds-shut-end : goal.slice_bounds-shut-end
-slice_bounds-shut-end c = part_length _ _ c.hauls_by.auto.hauls2 _ _ c.in-Priced.is c.hauls_by.ensures.room _ refl
+slice_bounds-shut-end c = part_length _ _ c.hauls_by.auto.hauls _ _ c.in-Priced.is c.hauls_by.ensures.room _ refl
 
 pub returns-in-AsWritten : goal.returns-in-AsWritten
 returns-in-AsWritten c = let a = c.args in

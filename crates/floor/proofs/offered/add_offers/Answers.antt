@@ -12,7 +12,7 @@ pub add_offer-sum-requires : goal.add_offer-sum-requires
 add_offer-sum-requires c = (c.requires.0, c.requires.1, omega (arith, c.loop-farm.invariant.1, c.requires.2), omega (arith, c.loop-farm-test.true), c.loop-farm.invariant.2)
 
 pub overflow_add-sum : goal.overflow_add-sum
-overflow_add-sum c = omega (arith, c.loop-farm.invariant.3.small, c.add_offer-sum.ensures.small.0, c.loop-farm-test.true, c.requires.0.few_farms)
+overflow_add-sum c = omega (arith, c.loop-farm.invariant.3.small, c.add_offer-sum.ensures.small, c.loop-farm-test.true, c.requires.0.few_farms)
 
 pub overflow_add-farm : goal.overflow_add-farm
 overflow_add-farm c = omega arith
@@ -24,8 +24,8 @@ pub loop-farm-preserved : goal.loop-farm-preserved
 loop-farm-preserved c = let added = c.add_offer-sum in (
   omega (arith, c.loop-farm-test.true),
   c.add_offer-sum.auto.excess ∙ c.loop-farm.invariant.1,
-  added.ensures.small.1,
-  summed_more _ _ _ _ c.loop-farm.invariant.3 added.ensures.sum added.ensures.small.0,
+  added.ensures.excess,
+  summed_more _ _ _ _ c.loop-farm.invariant.3 added.ensures.sum added.ensures.small,
 )
 
 pub returns : goal.returns

@@ -44,5 +44,5 @@ returns c = let a = c.args in
     let told = as_outcome (ap (λ e. accepted (plan_of (instance_by a.sheet.now a.m a.n) (farm_byte a.sheet.now a.m) e))
     (same_end a.sheet.now a.m a.n a.k _ _ c.fill_rows.ensures c.search_on-settled.result a.neighbourhood c.fill_opening.ensures
     c.search_on-settled.ensures))
-    c.write.result _ _ c.write.ensures in
+    c.write.result _ _ (c.write.ensures.answer, c.write.ensures.area) in
     record { answer = told.0; area = told.1 }

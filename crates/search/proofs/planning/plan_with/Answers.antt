@@ -39,7 +39,7 @@ returns-else-not-fits c = let e = sym c.read.ensures ∙ ap reading_answer c.in-
     let form = (accepts _ _ _ e).has in
     let q = said_yes (c.plan_fits-fits.ensures ∙ fits_within _ _ _ form.some_yards form.few_yards form.few_farms) c.if-not-fits.false in
     let told = as_outcome (sym (planned _ _ _ _ _ _ e (k_good _ _ c.if-k-lt1.false c.if-yards-k.false) q))
-    c.plan_by.result _ _ c.plan_by.ensures in
+    c.plan_by.result _ _ (c.plan_by.ensures.answer, c.plan_by.ensures.area) in
     record { answer = told.0; area = told.1 }
 
 pub returns-in-Refused : goal.returns-in-Refused

@@ -1,6 +1,6 @@
 use mathlib.Core.Path.{◌≡◌, refl, sym, ap, subst, ◌∙◌}
 use Prim.Native.Nat.{ℕ, ◌+◌, ◌-◌, ◌*◌, ◌<◌}
-use native.Mathlib.Nat.{lt_of_le_of_lt, lt_of_lt_of_le, add-zero}
+use native.Mathlib.Nat.{lt_of_le_of_lt, add-zero}
 use native.Mathlib.Omega.{arith}
 use lib.ListN.{length, length-set}
 use Rattle.questions.proofs.AcceptedLaws.{accepts, shape_of}
@@ -24,7 +24,10 @@ overflow_cast-table c = let a = c.args in
     record { fits = lt_of_le_of_lt small (omega arith) }
 
 pub overflow_mul-cost : goal.overflow_mul-cost
-overflow_mul-cost c = record { fits = lt_of_lt_of_le (cast-table c).ranges (omega arith) }
+overflow_mul-cost c = let a = c.args in
+    let small = product_small a.sheet.now a.m a.n a.farm c.requires.0 c.requires.1 _ c.farm_stretch-hauls.ensures _ c.at.ensures _
+    c.loads_of-loads.ensures c.loop-a.a _ c.loop-a-test.true c.amount_at.ensures in
+    record { fits = lt_of_le_of_lt small (omega arith) }
 
 pub overflow_mul-table : goal.overflow_mul-table
 overflow_mul-table c = let a = c.args in
