@@ -9,8 +9,5 @@ use Rattle.numbers.proofs.second_number.Goals as goal
 pub overflow_add-result : goal.overflow_add-result
 overflow_add-result c = omega (arith, c.bit_8.ensures.small)
 
-pub overflow_add-result-in-Told : goal.overflow_add-result-in-Told
-overflow_add-result-in-Told c = omega (arith, c.bit_8.ensures.small, c.known_told-1.given)
-
 pub returns-in-Told : goal.returns-in-Told
 returns-in-Told c = rw c.bit_8.ensures.is (ap (λ (r : SecondYard). second_number (second_answer r)) (sym c.in-Told.is))
