@@ -6,7 +6,6 @@ ghost use Rattle.std.specs.Prelude.{◌≡◌, ◌<◌};
 ghost use Rattle.tariff.specs.Bands.{cost_before};
 ghost use Rattle.tariff.specs.House.{house};
 
-use libc::{STDERR_FILENO, STDOUT_FILENO};
 use tariff::{HOUSE, HOUSE_BANDS};
 
 // What all the bands before band i cost.
@@ -23,27 +22,18 @@ fn cost_before(i: usize) -> u32
     cost
 }
 
-fn print_line(n: u64) -> bool {
-    io::print_decimal(STDOUT_FILENO, n) && io::write_all(STDOUT_FILENO, b"\n")
-}
-
 // Printing stops at the first write that fails.
-fn print_starts() -> bool {
-    let mut i = 0;
-    while i < HOUSE_BANDS {
-        if !print_line(cost_before(i) as u64) {
+fn print_starts(rt: &impl Print) -> bool {
+    for i in 0..HOUSE_BANDS {
+        if println!(rt; "{}", cost_before(i)).is_err() {
             return false;
         }
-        i += 1;
     }
     true
 }
 
-fn main() {
-    if !print_starts() {
-        io::write_all(
-            STDERR_FILENO,
-            b"band_starts: the table could not be written whole\n",
-        );
+fn main(rt: HostRuntime) {
+    if !print_starts(&rt) {
+        let _told = eprintln!(rt; "band_starts: the table could not be written whole").is_ok();
     }
 }

@@ -67,7 +67,10 @@ module _ (s : List ℕ) (m n set yard : ℕ) where
     pub elsewhere_so_far : Summed (farm_elsewhere s m n set yard) elsewhere farm
 
   pub moved_none : Moved 0 0 0
-  moved_none = record { there_so_far = summed_none (farm_there s m n set yard); elsewhere_so_far = summed_none (farm_elsewhere s m n set yard) }
+  moved_none = record {
+    there_so_far = summed_none (farm_there s m n set yard);
+    elsewhere_so_far = summed_none (farm_elsewhere s m n set yard);
+  }
 
   pub moved_more : (there elsewhere farm x y : ℕ) → Moved there elsewhere farm → x ≡ farm_there s m n set yard farm → y ≡ farm_elsewhere s m n set yard farm
       → (x ≤ most_term) × (y ≤ most_term) → Moved (there + x) (elsewhere + y) (farm + 1)

@@ -24,7 +24,12 @@ returns-in-AsWritten c = let a = c.args in
     let told = c.hauls_by.ensures.hauls in
     let both = as_outcome (as_written _ _ _ _ (search rules) _ _ told (λ h. open_planning h (length a.area.now)) c.in-AsWritten.is)
     planned.result _ _ (planned.ensures.answer, planned.ensures.area) in
-    record { answer = both.0; area = both.1; settled = on_written _ _ _ _ (search rules) _ _ told (λ h. OpenPlanSettled h planned.result next) c.in-AsWritten.is planned.ensures.settled; bounded = on_written _ _ _ _ (search rules) _ _ told (λ h. OpenPlanBounded h planned.result next) c.in-AsWritten.is planned.ensures.bounded }
+    record {
+      answer = both.0;
+      area = both.1;
+      settled = on_written _ _ _ _ (search rules) _ _ told (λ h. OpenPlanSettled h planned.result next) c.in-AsWritten.is planned.ensures.settled;
+      bounded = on_written _ _ _ _ (search rules) _ _ told (λ h. OpenPlanBounded h planned.result next) c.in-AsWritten.is planned.ensures.bounded;
+    }
 
 pub returns-in-Priced : goal.returns-in-Priced
 unfolding open_planning_by
@@ -34,11 +39,21 @@ returns-in-Priced c = let a = c.args in
     let told = c.hauls_by.ensures.hauls in
     let both = as_outcome (as_priced _ _ _ _ (search rules) _ _ told (λ h. open_planning h (length a.area.now)) (open_first (length a.area.now)) _ c.in-Priced.is)
     planned.result _ _ (planned.ensures.answer, planned.ensures.area) in
-    record { answer = both.0; area = both.1; settled = on_priced _ _ _ _ (search rules) _ _ told (λ h. OpenPlanSettled h planned.result next) _ c.in-Priced.is planned.ensures.settled; bounded = on_priced _ _ _ _ (search rules) _ _ told (λ h. OpenPlanBounded h planned.result next) _ c.in-Priced.is planned.ensures.bounded }
+    record {
+      answer = both.0;
+      area = both.1;
+      settled = on_priced _ _ _ _ (search rules) _ _ told (λ h. OpenPlanSettled h planned.result next) _ c.in-Priced.is planned.ensures.settled;
+      bounded = on_priced _ _ _ _ (search rules) _ _ told (λ h. OpenPlanBounded h planned.result next) _ c.in-Priced.is planned.ensures.bounded;
+    }
 
 pub returns-in-Refused : goal.returns-in-Refused
 unfolding open_planning_by
 returns-in-Refused c = let a = c.args in
     let told = c.hauls_by.ensures.hauls in
     let both = refuses _ a.area.now _ (sym (as_refused _ _ _ _ (search rules) _ _ told (λ h. open_planning h (length a.area.now)) _ c.in-Refused.is)) in
-    record { answer = both.0; area = both.1; settled = on_refused _ _ _ _ (search rules) _ _ told _ _ c.in-Refused.is; bounded = on_refused _ _ _ _ (search rules) _ _ told _ _ c.in-Refused.is }
+    record {
+      answer = both.0;
+      area = both.1;
+      settled = on_refused _ _ _ _ (search rules) _ _ told _ _ c.in-Refused.is;
+      bounded = on_refused _ _ _ _ (search rules) _ _ told _ _ c.in-Refused.is;
+    }

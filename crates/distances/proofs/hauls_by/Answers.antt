@@ -19,7 +19,10 @@ price_given-requires c = c.if-hauls-lt-MOST_BYTES.false
 pub returns-in-NoTariff : goal.returns-in-NoTariff
 unfolding sheet_by
 returns-in-NoTariff c = let a = c.args in
-    record { hauls = ap (λ by. sheet_by by a.tariff.now a.sheet.now) (sym c.in-NoTariff.is) ∙ sym (enough_room _ _ _ _ c.if-hauls-lt-MOST_BYTES.false); room = tt }
+    record {
+      hauls = ap (λ by. sheet_by by a.tariff.now a.sheet.now) (sym c.in-NoTariff.is) ∙ sym (enough_room _ _ _ _ c.if-hauls-lt-MOST_BYTES.false);
+      room = tt;
+    }
 
 pub returns-in-HouseTariff : goal.returns-in-HouseTariff
 unfolding sheet_by
@@ -34,4 +37,7 @@ pub returns-in-GivenTariff : goal.returns-in-GivenTariff
 unfolding sheet_by
 returns-in-GivenTariff c = let priced = c.price_given in
     let a = c.args in
-    record { hauls = priced.ensures.hauls ∙ ap (λ by. sheet_by by a.tariff.now a.sheet.now) (sym c.in-GivenTariff.is) ∙ sym (enough_room _ _ _ _ c.if-hauls-lt-MOST_BYTES.false); room = priced.ensures.room }
+    record {
+      hauls = priced.ensures.hauls ∙ ap (λ by. sheet_by by a.tariff.now a.sheet.now) (sym c.in-GivenTariff.is) ∙ sym (enough_room _ _ _ _ c.if-hauls-lt-MOST_BYTES.false);
+      room = priced.ensures.room;
+    }

@@ -18,4 +18,7 @@ returns-in-Accepted c = let given = read_accepted (tariff_reading c.args.tariff.
 
 pub returns-in-Refused : goal.returns-in-Refused
 unfolding under_given
-returns-in-Refused c = record { hauls = rw (read_refused (tariff_reading c.args.tariff.now) _ _ c.read_tariff-given.ensures c.in-Refused.is); room = tt }
+returns-in-Refused c = record {
+  hauls = rw (read_refused (tariff_reading c.args.tariff.now) _ _ c.read_tariff-given.ensures c.in-Refused.is);
+  room = tt;
+}

@@ -8,4 +8,7 @@ use Rattle.exports.proofs.planner_floor.Goals as goal
 pub returns : goal.returns
 returns c = let made = c.floor_by-bound in
     let bits = subst SumKeepsBits (sym made.ensures.answer) (sum_by_within _ _ _ _) in
-    record { answer = rw (← c.choice_of.ensures) (c.sum_number.ensures ∙ ap sum_number made.ensures.answer); under = rw (← c.choice_of.ensures) ((λ h is. under_told h _ made.result bits c.sum_number.ensures (made.ensures.under h is))) }
+    record {
+      answer = rw (← c.choice_of.ensures) (c.sum_number.ensures ∙ ap sum_number made.ensures.answer);
+      under = rw (← c.choice_of.ensures) ((λ h is. under_told h _ made.result bits c.sum_number.ensures (made.ensures.under h is)));
+    }

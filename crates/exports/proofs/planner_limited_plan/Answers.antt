@@ -11,4 +11,10 @@ returns c = let planned = c.limited_plan-limited_plan in
     let sheet = c.args.sheet.now in
     let area = planned.new.area in
     let bits = subst KeepsBits (sym planned.ensures.answer) (limited_within _ _ _) in
-    record { answer = c.plan_number.ensures ∙ ap result_number planned.ensures.answer; area = planned.ensures.area; sized = of_written _ area (OfSize sheet c.args.k) planned.result bits c.plan_number.ensures planned.ensures.sized; settled = of_written _ area (NoLimitedMove sheet) planned.result bits c.plan_number.ensures planned.ensures.settled; bounded = of_written _ area (BoundedByRivalsOf sheet c.args.k) planned.result bits c.plan_number.ensures planned.ensures.bounded }
+    record {
+      answer = c.plan_number.ensures ∙ ap result_number planned.ensures.answer;
+      area = planned.ensures.area;
+      sized = of_written _ area (OfSize sheet c.args.k) planned.result bits c.plan_number.ensures planned.ensures.sized;
+      settled = of_written _ area (NoLimitedMove sheet) planned.result bits c.plan_number.ensures planned.ensures.settled;
+      bounded = of_written _ area (BoundedByRivalsOf sheet c.args.k) planned.result bits c.plan_number.ensures planned.ensures.bounded;
+    }

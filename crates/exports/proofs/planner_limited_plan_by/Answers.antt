@@ -10,4 +10,10 @@ returns c = let planned = c.limited_plan_by-limited_plan in
     let k = c.args.k in
     let area = planned.new.area in
     let bits = subst KeepsBits (sym planned.ensures.answer) (limited_by_within _ _ _ _ _) in
-    record { answer = rw (← c.choice_of.ensures) (c.plan_number.ensures ∙ ap result_number planned.ensures.answer); area = rw (← c.choice_of.ensures) planned.ensures.area; sized = rw (← c.choice_of.ensures) (of_written_by _ _ _ _ area (λ h. OfSize h k) planned.result bits c.plan_number.ensures planned.ensures.sized); settled = rw (← c.choice_of.ensures) (of_written_by _ _ _ _ area NoLimitedMove planned.result bits c.plan_number.ensures planned.ensures.settled); bounded = rw (← c.choice_of.ensures) (of_written_by _ _ _ _ area (λ h. BoundedByRivalsOf h k) planned.result bits c.plan_number.ensures planned.ensures.bounded) }
+    record {
+      answer = rw (← c.choice_of.ensures) (c.plan_number.ensures ∙ ap result_number planned.ensures.answer);
+      area = rw (← c.choice_of.ensures) planned.ensures.area;
+      sized = rw (← c.choice_of.ensures) (of_written_by _ _ _ _ area (λ h. OfSize h k) planned.result bits c.plan_number.ensures planned.ensures.sized);
+      settled = rw (← c.choice_of.ensures) (of_written_by _ _ _ _ area NoLimitedMove planned.result bits c.plan_number.ensures planned.ensures.settled);
+      bounded = rw (← c.choice_of.ensures) (of_written_by _ _ _ _ area (λ h. BoundedByRivalsOf h k) planned.result bits c.plan_number.ensures planned.ensures.bounded);
+    }

@@ -11,4 +11,9 @@ returns c = let planned = c.open_plan-open_plan in
     let sheet = c.args.sheet.now in
     let area = planned.new.area in
     let bits = subst KeepsBits (sym planned.ensures.answer) (open_within _ _) in
-    record { answer = c.plan_number.ensures ∙ ap result_number planned.ensures.answer; area = planned.ensures.area; settled = of_written _ area (NoOpenMove sheet) planned.result bits c.plan_number.ensures planned.ensures.settled; bounded = of_written _ area (BoundedByRivals sheet) planned.result bits c.plan_number.ensures planned.ensures.bounded }
+    record {
+      answer = c.plan_number.ensures ∙ ap result_number planned.ensures.answer;
+      area = planned.ensures.area;
+      settled = of_written _ area (NoOpenMove sheet) planned.result bits c.plan_number.ensures planned.ensures.settled;
+      bounded = of_written _ area (BoundedByRivals sheet) planned.result bits c.plan_number.ensures planned.ensures.bounded;
+    }

@@ -9,4 +9,9 @@ pub returns : goal.returns
 returns c = let planned = c.open_plan_by-open_plan in
     let area = planned.new.area in
     let bits = subst KeepsBits (sym planned.ensures.answer) (open_by_within _ _ _ _) in
-    record { answer = rw (← c.choice_of.ensures) (c.plan_number.ensures ∙ ap result_number planned.ensures.answer); area = rw (← c.choice_of.ensures) planned.ensures.area; settled = rw (← c.choice_of.ensures) (of_written_by _ _ _ _ area NoOpenMove planned.result bits c.plan_number.ensures planned.ensures.settled); bounded = rw (← c.choice_of.ensures) (of_written_by _ _ _ _ area BoundedByRivals planned.result bits c.plan_number.ensures planned.ensures.bounded) }
+    record {
+      answer = rw (← c.choice_of.ensures) (c.plan_number.ensures ∙ ap result_number planned.ensures.answer);
+      area = rw (← c.choice_of.ensures) planned.ensures.area;
+      settled = rw (← c.choice_of.ensures) (of_written_by _ _ _ _ area NoOpenMove planned.result bits c.plan_number.ensures planned.ensures.settled);
+      bounded = rw (← c.choice_of.ensures) (of_written_by _ _ _ _ area BoundedByRivals planned.result bits c.plan_number.ensures planned.ensures.bounded);
+    }

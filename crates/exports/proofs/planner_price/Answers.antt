@@ -8,4 +8,8 @@ use Rattle.exports.proofs.planner_price.Goals as goal
 pub returns : goal.returns
 returns c = let priced = c.price-priced in
     let bits = subst KeepsBits (sym priced.ensures.answer) (pricing_within _ _ _) in
-    record { answer = c.plan_number.ensures ∙ ap result_number priced.ensures.answer; area = priced.ensures.area; kept = of_written _ priced.new.area (λ kept. kept ≡ c.args.set) priced.result bits c.plan_number.ensures priced.ensures.kept }
+    record {
+      answer = c.plan_number.ensures ∙ ap result_number priced.ensures.answer;
+      area = priced.ensures.area;
+      kept = of_written _ priced.new.area (λ kept. kept ≡ c.args.set) priced.result bits c.plan_number.ensures priced.ensures.kept;
+    }

@@ -9,4 +9,8 @@ pub returns : goal.returns
 returns c = let priced = c.price_by-priced in
     let a = c.args in
     let bits = subst KeepsBits (sym priced.ensures.answer) (pricing_by_within _ _ _ _ _) in
-    record { answer = rw (← c.choice_of.ensures) (c.plan_number.ensures ∙ ap result_number priced.ensures.answer); area = rw (← c.choice_of.ensures) priced.ensures.area; kept = (of_written _ priced.new.area (λ kept. kept ≡ a.set) priced.result bits c.plan_number.ensures priced.ensures.kept) }
+    record {
+      answer = rw (← c.choice_of.ensures) (c.plan_number.ensures ∙ ap result_number priced.ensures.answer);
+      area = rw (← c.choice_of.ensures) priced.ensures.area;
+      kept = (of_written _ priced.new.area (λ kept. kept ≡ a.set) priced.result bits c.plan_number.ensures priced.ensures.kept);
+    }

@@ -8,4 +8,7 @@ use Rattle.exports.proofs.planner_shut.Goals as goal
 pub returns : goal.returns
 returns c = let made = c.shut_by-change in
     let bits = subst ChangeKeepsBits (sym made.ensures.answer) (shut_by_within _ _ _ _ _) in
-    record { answer = rw (← c.choice_of.ensures) (c.change_number.ensures ∙ ap change_number made.ensures.answer); difference = rw (← c.choice_of.ensures) ((λ h is. difference_told h _ _ _ made.result bits c.change_number.ensures (made.ensures.difference h is))) }
+    record {
+      answer = rw (← c.choice_of.ensures) (c.change_number.ensures ∙ ap change_number made.ensures.answer);
+      difference = rw (← c.choice_of.ensures) ((λ h is. difference_told h _ _ _ made.result bits c.change_number.ensures (made.ensures.difference h is)));
+    }

@@ -13,7 +13,10 @@ use Rattle.nearest.proofs.choice_of.Goals as goal
 pub returns-then-lesser-at : goal.returns-then-lesser-at
 unfolding choice_of
 returns-then-lesser-at c = let a = c.args in
-    record { choice = rw (le-ltb a.yard (yards_on a.fees.now a.hauls.now) (omega arith)); small = (search rules, (λ l. absurd (omega arith))) }
+    record {
+      choice = rw (le-ltb a.yard (yards_on a.fees.now a.hauls.now) (omega arith));
+      small = (search rules, (λ l. absurd (omega arith)));
+    }
 
 pub returns : goal.returns
 unfolding choice_of
@@ -21,4 +24,7 @@ returns c = let haul = part_amount c.args.hauls.now _ c.args.yard _ (omega arith
     let fee = part_amount c.args.fees.now _ c.args.yard _ (omega arith) refl c.at-fee.ensures in
     let haul_fits : c.at-haul.result.amount < amount_end = omega (arith, c.at-haul.type_inv) in
     let fee_fits : c.at-fee.result.amount < amount_end = omega (arith, c.at-fee.type_inv) in
-    record { choice = ap₂ (choice c.args.yard) haul fee ∙ rw (lt-ltb c.args.yard (yards_on c.args.fees.now c.args.hauls.now) (omega arith)); small = (omega (arith, c.ranges.yard), (λ l. (omega (arith, haul), omega (arith, fee)))) }
+    record {
+      choice = ap₂ (choice c.args.yard) haul fee ∙ rw (lt-ltb c.args.yard (yards_on c.args.fees.now c.args.hauls.now) (omega arith));
+      small = (omega (arith, c.ranges.yard), (λ l. (omega (arith, haul), omega (arith, fee))));
+    }

@@ -12,7 +12,10 @@ pub take_distances-requires : goal.take_distances-requires
 take_distances-requires c = (omega arith, c.requires.1)
 
 pub returns-then-not-take_distances : goal.returns-then-not-take_distances
-returns-then-not-take_distances c = record { within = sym (said_no c.take_distances.ensures.within c.if-not-take_distances.true); area = λ yes. clash yes refl }
+returns-then-not-take_distances c = record {
+  within = sym (said_no c.take_distances.ensures.within c.if-not-take_distances.true);
+  area = λ yes. clash yes refl;
+}
 
 pub put_block-requires : goal.put_block-requires
 put_block-requires c = let found = c.bands_of-bands in

@@ -26,7 +26,10 @@ distance_of-distance-requires c = omega arith
 pub returns-then-reach-distance : goal.returns-then-reach-distance
 returns-then-reach-distance c = let start = c.args in
     let read = c.distance_of-distance.ensures ∙ ap distance_of c.record_within.ensures in
-    record { within = sym (all_stops _ _ c.loop-k.k (omega arith) (far_read start.sheet.now start.from start.reach c.loop-k.k _ read c.if-reach-distance.true)); taken = λ yes. clash yes refl }
+    record {
+      within = sym (all_stops _ _ c.loop-k.k (omega arith) (far_read start.sheet.now start.from start.reach c.loop-k.k _ read c.if-reach-distance.true));
+      taken = λ yes. clash yes refl;
+    }
 
 pub overflow_cast-distances : goal.overflow_cast-distances
 overflow_cast-distances c = omega arith

@@ -21,7 +21,10 @@ price_block-requires c = let few = c.lesser-count.ensures in
 pub returns-then-not-price_block : goal.returns-then-not-price_block
 returns-then-not-price_block c = let few = c.lesser-count.ensures in
     let a = c.args in
-    record { within = sym (far_more a.sheet.now a.by.reach c.loop-i.i _ c.loop-i.invariant.2 _ (omega (arith, few)) (said_no c.price_block.ensures.within c.if-not-price_block.true)); area = λ yes. clash yes refl }
+    record {
+      within = sym (far_more a.sheet.now a.by.reach c.loop-i.i _ c.loop-i.invariant.2 _ (omega (arith, few)) (said_no c.price_block.ensures.within c.if-not-price_block.true));
+      area = λ yes. clash yes refl;
+    }
 
 pub overflow_add-i : goal.overflow_add-i
 overflow_add-i c = omega (arith, c.lesser-count.ensures)

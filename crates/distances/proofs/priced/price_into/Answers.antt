@@ -33,7 +33,13 @@ returns-then-price_all c = let put = c.price_all in
 
 pub returns-in-Accepted : goal.returns-in-Accepted
 returns-in-Accepted c = let s = c.args.sheet.now in
-    record { hauls = sym (refuses_13 _ _ _ _ _ (sym c.form_and_loads_of.ensures ∙ ap reading_answer c.in-Accepted.is) (sym c.price_all.ensures.within ∙ c.if-price_all.false)); room = tt }
+    record {
+      hauls = sym (refuses_13 _ _ _ _ _ (sym c.form_and_loads_of.ensures ∙ ap reading_answer c.in-Accepted.is) (sym c.price_all.ensures.within ∙ c.if-price_all.false));
+      room = tt;
+    }
 
 pub returns-in-Refused : goal.returns-in-Refused
-returns-in-Refused c = record { hauls = sym (form_refuses _ _ _ _ (sym c.form_and_loads_of.ensures ∙ ap reading_answer c.in-Refused.is)); room = tt }
+returns-in-Refused c = record {
+  hauls = sym (form_refuses _ _ _ _ (sym c.form_and_loads_of.ensures ∙ ap reading_answer c.in-Refused.is));
+  room = tt;
+}

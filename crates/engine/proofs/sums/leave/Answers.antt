@@ -33,7 +33,9 @@ pub overflow_cast-kept : goal.overflow_cast-kept
 overflow_cast-kept c = omega (arith, c.requires.0.ordered c.args.j c.requires.1, c.requires.0.within c.args.j c.requires.1)
 
 pub overflow_add-kept-2 : goal.overflow_add-kept-2
-overflow_add-kept-2 c = record { fits = leave_loss_fits c.requires.0 c.args.j c.requires.1 _ (leave_shifted c.requires.0 c.args.j c.requires.1 _ c.shift_out.ensures) (omega arith) }
+overflow_add-kept-2 c = record {
+  fits = leave_loss_fits c.requires.0 c.args.j c.requires.1 _ (leave_shifted c.requires.0 c.args.j c.requires.1 _ c.shift_out.ensures) (omega arith);
+}
 
 pub overflow_cast-kept-2 : goal.overflow_cast-kept-2
 overflow_cast-kept-2 c = omega (arith, c.requires.0.ordered c.args.j c.requires.1, c.requires.0.within c.args.j c.requires.1)
@@ -49,4 +51,7 @@ bounds-kept-j-5 c = simp length-set (omega (arith, c.requires.0.room, c.requires
 
 pub returns : goal.returns
 returns c = let shifted = leave_shifted c.requires.0 c.args.j c.requires.1 _ c.shift_out.ensures in
-    record { kept = leave_kept c.requires.0 c.args.j c.requires.1 _ shifted (omega arith); put = leave_put c.requires.0 c.args.j c.requires.1 _ shifted (omega arith) }
+    record {
+      kept = leave_kept c.requires.0 c.args.j c.requires.1 _ shifted (omega arith);
+      put = leave_put c.requires.0 c.args.j c.requires.1 _ shifted (omega arith);
+    }

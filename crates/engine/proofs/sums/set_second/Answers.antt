@@ -40,4 +40,7 @@ bounds-kept-j-3 c = simp length-set (omega (arith, c.requires.0.room, c.requires
 pub returns : goal.returns
 returns c = let a = c.args in
     let shifted = second_shifted c.requires.0 c.args.j c.requires.1 c.args.second c.requires.2 c.requires.3 _ c.shift.ensures in
-    record { kept = second_kept c.requires.0 a.j c.requires.1 a.second c.requires.2 c.requires.3 _ shifted (omega arith); put = second_put c.requires.0 a.j c.requires.1 a.second c.requires.2 c.requires.3 _ shifted (omega arith) }
+    record {
+      kept = second_kept c.requires.0 a.j c.requires.1 a.second c.requires.2 c.requires.3 _ shifted (omega arith);
+      put = second_put c.requires.0 a.j c.requires.1 a.second c.requires.2 c.requires.3 _ shifted (omega arith);
+    }

@@ -49,4 +49,8 @@ pub returns : goal.returns
 returns c = let l = c.loop-yard in
     let e : l.yard ≡ c.args.m = omega arith in
     let small = loads_small _ _ c.at-amount.result.amount c.loads_of-loads.ensures (omega (arith, c.at.type_inv)) (omega (arith, c.at-amount.type_inv)) in
-    record { sum = sum_is _ _ _ _ _ c.requires.0 c.requires.1 c.requires.3 _ c.farm_stretch-hauls.ensures _ c.at.ensures _ c.loads_of-loads.ensures _ c.at-amount.ensures; small = small; excess = (λ i below. l.invariant.3.changed i (omega arith)) }
+    record {
+      sum = sum_is _ _ _ _ _ c.requires.0 c.requires.1 c.requires.3 _ c.farm_stretch-hauls.ensures _ c.at.ensures _ c.loads_of-loads.ensures _ c.at-amount.ensures;
+      small = small;
+      excess = (λ i below. l.invariant.3.changed i (omega arith));
+    }

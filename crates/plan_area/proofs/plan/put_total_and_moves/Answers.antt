@@ -6,4 +6,7 @@ use Rattle.plan_area.proofs.plan.put_total_and_moves.Goals as goal
 
 pub returns : goal.returns
 unfolding moves_record
-returns c = record { next = omega arith; area = put_two _ _ _ _ _ _ _ _ (omega arith) c.new-sum.ensures c.put.ensures c.new-made.ensures c.put-2.ensures }
+returns c = record {
+  next = omega arith;
+  area = put_two _ _ _ _ _ _ _ _ (omega arith) c.new-sum.ensures c.put.ensures c.new-made.ensures c.put-2.ensures;
+}

@@ -38,4 +38,8 @@ returns c = let farms = c.put_farms-hauls in
     let opens = c.put_opens-fees in
     let known = c.requires in
     let opened = part_count _ _ _ c.members_below-open.ensures known.0.few_yards in
-    record { «open» = opened; cost = total_is _ _ _ _ _ _ opens.ensures.exact farms.ensures.exact; area = body_is _ _ _ _ _ _ _ _ opened (omega arith) opens.ensures.area farms.ensures.area }
+    record {
+      «open» = opened;
+      cost = total_is _ _ _ _ _ _ opens.ensures.exact farms.ensures.exact;
+      area = body_is _ _ _ _ _ _ _ _ opened (omega arith) opens.ensures.area farms.ensures.area;
+    }

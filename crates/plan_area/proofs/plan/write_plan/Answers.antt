@@ -7,7 +7,10 @@ use Rattle.plan_area.proofs.PlanRecordLaws.{fits_says, few_records, fits_shape, 
 use Rattle.plan_area.proofs.plan.write_plan.Goals as goal
 
 pub returns-then-not-plan_fits : goal.returns-then-not-plan_fits
-returns-then-not-plan_fits c = record { bytes = rw (writes_none _ _ _ _ _ _ _ (said_no c.plan_fits.ensures c.if-not-plan_fits.true)) (omega arith); area = rw (writes_none _ _ _ _ _ _ _ (said_no c.plan_fits.ensures c.if-not-plan_fits.true)) (sym (splice_none _ _)) }
+returns-then-not-plan_fits c = record {
+  bytes = rw (writes_none _ _ _ _ _ _ _ (said_no c.plan_fits.ensures c.if-not-plan_fits.true)) (omega arith);
+  area = rw (writes_none _ _ _ _ _ _ _ (said_no c.plan_fits.ensures c.if-not-plan_fits.true)) (sym (splice_none _ _));
+}
 
 pub overflow_mul-farms : goal.overflow_mul-farms
 overflow_mul-farms c = omega (arith, few_records _ _ _ (said_yes c.plan_fits.ensures c.if-not-plan_fits.false))
@@ -19,7 +22,10 @@ pub overflow_mul-yards : goal.overflow_mul-yards
 overflow_mul-yards c = omega (arith, few_records _ _ _ (said_yes c.plan_fits.ensures c.if-not-plan_fits.false))
 
 pub returns-then-sheet-yards : goal.returns-then-sheet-yards
-returns-then-sheet-yards c = record { bytes = rw (writes_short _ _ _ _ _ _ _ (said_yes c.plan_fits.ensures c.if-not-plan_fits.false) c.if-sheet-yards.true) (omega arith); area = rw (writes_short _ _ _ _ _ _ _ (said_yes c.plan_fits.ensures c.if-not-plan_fits.false) c.if-sheet-yards.true) (sym (splice_none _ _)) }
+returns-then-sheet-yards c = record {
+  bytes = rw (writes_short _ _ _ _ _ _ _ (said_yes c.plan_fits.ensures c.if-not-plan_fits.false) c.if-sheet-yards.true) (omega arith);
+  area = rw (writes_short _ _ _ _ _ _ _ (said_yes c.plan_fits.ensures c.if-not-plan_fits.false) c.if-sheet-yards.true) (sym (splice_none _ _));
+}
 
 pub put_yards_and_farms-totals-requires : goal.put_yards_and_farms-totals-requires
 put_yards_and_farms-totals-requires c = let fits = said_yes c.plan_fits.ensures c.if-not-plan_fits.false in

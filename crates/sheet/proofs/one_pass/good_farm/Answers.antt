@@ -88,4 +88,7 @@ pub returns : goal.returns
 returns c = let s = c.args in
     let e : c.loop-a.a ≡ s.m = omega arith in
     let first = byte_read s.sheet.now s.m s.p _ c.record_within-loads.ensures in
-    record { good = good_hauls s.sheet.now s.m s.p (omega arith) (rw e at c.loop-a.invariant.2); filled = λ yes. filled_farm _ _ _ _ (rw e at c.loop-a.invariant.3) }
+    record {
+      good = good_hauls s.sheet.now s.m s.p (omega arith) (rw e at c.loop-a.invariant.2);
+      filled = λ yes. filled_farm _ _ _ _ (rw e at c.loop-a.invariant.3);
+    }

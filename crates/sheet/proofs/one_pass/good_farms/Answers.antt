@@ -14,7 +14,10 @@ pub good_farm-requires : goal.good_farm-requires
 good_farm-requires c = (fewer_farms _ _ _ (c.loop-p.p + 1) c.requires.0 (omega arith), c.loop-p.invariant.3)
 
 pub returns-then-not-good_farm : goal.returns-then-not-good_farm
-returns-then-not-good_farm c = record { good = sym (all_stops _ _ c.loop-p.p (omega arith) (said_no c.good_farm.ensures.good c.if-not-good_farm.true)); filled = λ e. clash e refl }
+returns-then-not-good_farm c = record {
+  good = sym (all_stops _ _ c.loop-p.p (omega arith) (said_no c.good_farm.ensures.good c.if-not-good_farm.true));
+  filled = λ e. clash e refl;
+}
 
 pub overflow_add-p : goal.overflow_add-p
 overflow_add-p c = omega arith

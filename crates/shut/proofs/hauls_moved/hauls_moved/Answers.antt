@@ -26,10 +26,14 @@ farm_moved-moved-requires c = let few = c.requires.few_yards in
     (c.requires, part_numbers _ _ _ c.members_below-open.ensures few, part_numbers _ _ _ c.members_below-left.ensures few ∙ ap (rising_below c.args.m) c.removed.ensures, c.loop-farm-test.true)
 
 pub overflow_add-there : goal.overflow_add-there
-overflow_add-there c = record { fits = omega (arith, c.loop-farm.invariant.1.there_so_far.small, c.farm_moved-moved.ensures.small.0, c.requires.few_farms) }
+overflow_add-there c = record {
+  fits = omega (arith, c.loop-farm.invariant.1.there_so_far.small, c.farm_moved-moved.ensures.small.0, c.requires.few_farms);
+}
 
 pub overflow_add-elsewhere : goal.overflow_add-elsewhere
-overflow_add-elsewhere c = record { fits = omega (arith, c.loop-farm.invariant.1.elsewhere_so_far.small, c.farm_moved-moved.ensures.small.1, c.requires.few_farms) }
+overflow_add-elsewhere c = record {
+  fits = omega (arith, c.loop-farm.invariant.1.elsewhere_so_far.small, c.farm_moved-moved.ensures.small.1, c.requires.few_farms);
+}
 
 pub loop-farm-smaller : goal.loop-farm-smaller
 loop-farm-smaller c = omega arith

@@ -34,4 +34,7 @@ loop-i-preserved c = (omega arith, subst (Made house _) (sym c.with_band-tariff.
 pub returns : goal.returns
 returns c = let e : c.loop-i.i ≡ 6 = omega arith in
     let all = rw e at c.loop-i.invariant.1 in
-    record { prices = made_prices house house_allowed _ all; starts = λ i l. line_begins house house_allowed _ all i l ∙ sym (start_is i l) }
+    record {
+      prices = made_prices house house_allowed _ all;
+      starts = λ i l. line_begins house house_allowed _ all i l ∙ sym (start_is i l);
+    }
