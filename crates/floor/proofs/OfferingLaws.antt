@@ -14,7 +14,7 @@ use Rattle.model.proofs.FloorLaws.{floor_under}
 use Rattle.model.proofs.Bools.{and_left}
 use Rattle.record.specs.declared.Record.{Record}
 use Rattle.record.specs.Records.{record_at, amount_at}
-use Rattle.questions.specs.Sheet.{yards, instance_by, instance_of}
+use Rattle.questions.specs.Sheet.{instance_by, instance_of}
 use Rattle.questions.specs.Reading.{counts, reading}
 use Rattle.questions.proofs.AcceptedLaws.{instance_is, accepts, facilities_are}
 use Rattle.floor.specs.declared.LowerBound.{LowerBound}

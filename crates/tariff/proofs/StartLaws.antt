@@ -11,7 +11,6 @@ use mathlib.Core.Logic.{◌⊎◌, inl, inr}
 use borrow.Author.Tests.{ltb-true, ltb-false, lt-ltb, le-ltb}
 use lib.Dec.{ltb}
 use Rattle.model.specs.Loops.{sum}
-use Rattle.model.specs.Sets.{count}
 use Rattle.model.proofs.CountLaws.{count_le, count_downward}
 use Rattle.model.proofs.LoopLaws.{last_or}
 use Rattle.model.proofs.SumLaws.{sum_mono}

@@ -1,4 +1,3 @@
-use Prim.Native.Nat.{◌-◌}
 use native.Mathlib.Omega.{arith}
 use Rattle.nearest.proofs.ChoiceLaws.{none_listed, next_listed, none_found, one_found}
 use Rattle.nearest.proofs.nearest_listed.Goals as goal

@@ -1,5 +1,4 @@
 use mathlib.Core.Path.{◌≡◌, sym, ◌∙◌}
-use Prim.Native.Nat.{◌-◌}
 use native.Mathlib.Omega.{arith}
 use Rattle.model.proofs.Bools.{said_no, said_yes}
 use Rattle.model.proofs.LoopLaws.{all_none, all_more, all_stops}

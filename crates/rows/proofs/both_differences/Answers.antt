@@ -1,4 +1,4 @@
-use Rattle.std.proofs.Common.{◌≡◌, ◌-◌, refl, arith, length-set, rules}
+use Rattle.std.proofs.Common.{◌≡◌, refl, arith, length-set, rules}
 use Rattle.rows.specs.Shifts.{above_at, between_at}
 use Rattle.rows.proofs.ChangeLaws.{front_none, front_more}
 use Rattle.rows.proofs.WrapLaws.{above_taken, between_taken}

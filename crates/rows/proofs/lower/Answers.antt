@@ -1,4 +1,4 @@
-use Rattle.std.proofs.Common.{◌≡◌, ◌-◌, refl, arith, length-set, rules}
+use Rattle.std.proofs.Common.{◌≡◌, refl, arith, length-set, rules}
 use Rattle.model.proofs.PassingLaws.{through_none}
 use Rattle.rows.specs.Shifts.{between_at, changed, fall}
 use Rattle.rows.proofs.ChangeLaws.{change_more}

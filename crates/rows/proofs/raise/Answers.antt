@@ -1,4 +1,4 @@
-use Rattle.std.proofs.Common.{◌≡◌, ◌-◌, refl, arith, length-set}
+use Rattle.std.proofs.Common.{◌≡◌, refl, arith, length-set}
 use Rattle.model.proofs.PassingLaws.{through_none}
 use Rattle.rows.specs.Shifts.{between_at, changed, rise}
 use Rattle.rows.proofs.ChangeLaws.{change_more}

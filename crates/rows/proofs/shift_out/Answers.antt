@@ -1,4 +1,4 @@
-use Rattle.std.proofs.Common.{◌≡◌, ◌-◌, refl, arith, length-set, rules}
+use Rattle.std.proofs.Common.{◌≡◌, refl, arith, length-set, rules}
 use Rattle.model.proofs.Bools.{said_no, said_yes}
 use Rattle.model.proofs.PassingLaws.{through_none}
 use Rattle.rows.specs.Shifts.{above_at, between_at, changed, rise, fall}

@@ -22,7 +22,6 @@ use Rattle.engine.specs.Moves.{neighbours_by}
 use Rattle.engine.specs.SearchOnTables.{good_start, start_set, searching}
 use Rattle.engine.specs.declared.Start.{Start}
 use Rattle.engine.specs.declared.Found.{Found}
-use Rattle.engine.specs.declared.Found.TheVariants as Found
 use Rattle.engine.specs.declared.Neighbourhood.{Neighbourhood}
 use Rattle.engine.specs.declared.Neighbourhood.TheVariants.{AddDropSwap, Swap}
 use Rattle.engine.proofs.FoundLaws.{unbroken}

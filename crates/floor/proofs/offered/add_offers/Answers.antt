@@ -1,5 +1,4 @@
 use mathlib.Core.Path.{◌≡◌, refl, ◌∙◌}
-use Prim.Native.Nat.{◌-◌}
 use native.Mathlib.Omega.{arith}
 use Rattle.model.proofs.SumLaws.{summed_none, summed_more}
 use Rattle.floor.proofs.OfferedLaws.{all_offers}

@@ -1,4 +1,3 @@
-use Prim.Native.Nat.{◌-◌}
 use native.Mathlib.Omega.{arith}
 use Rattle.plan_area.proofs.plan.YardsAndFarmsLaws.{served_none, served_more, served_all}
 use Rattle.plan_area.proofs.plan.put_farms.Goals as goal

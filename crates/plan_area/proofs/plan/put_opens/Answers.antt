@@ -1,4 +1,3 @@
-use Prim.Native.Nat.{◌-◌}
 use native.Mathlib.Omega.{arith}
 use Rattle.sets.proofs.MemberLaws.{listed_next}
 use Rattle.plan_area.proofs.plan.YardsAndFarmsLaws.{opened_none, open_room, opened_small, opened_more, opened_all}

@@ -1,7 +1,5 @@
 use mathlib.Core.Path.{◌≡◌, refl, sym, subst, ◌∙◌}
-use Prim.Native.Nat.{◌-◌}
 use native.Mathlib.Omega.{arith}
-use borrow.Author.Rules.{rules}
 use Rattle.tariff.specs.House.{house}
 use Rattle.tariff.proofs.MakingLaws.{Made, made_none, may_follow, made_more, made_prices, line_begins}
 use Rattle.tariff.proofs.HouseLaws.{house_allowed, start_is}
