@@ -1,6 +1,5 @@
 //! The page for the office, docs/OFFICE.md: every command in it prints just what is shown under it.
 use std::fs;
-use std::os::unix::fs::symlink;
 use std::path::{Path, PathBuf};
 use std::process::Command;
 
@@ -43,8 +42,21 @@ fn folder(test: &str) -> PathBuf {
     let folder = Path::new(env!("CARGO_TARGET_TMPDIR")).join(test);
     let _ = fs::remove_dir_all(&folder);
     fs::create_dir_all(&folder).unwrap();
-    symlink(Path::new(env!("CARGO_MANIFEST_DIR")).join("../../sheets"), folder.join("sheets")).unwrap();
+    copy(&Path::new(env!("CARGO_MANIFEST_DIR")).join("../../sheets"), &folder.join("sheets"));
     folder
+}
+
+/// A folder with all that is below it. The gate refuses links anywhere in a checkout.
+fn copy(from: &Path, to: &Path) {
+    fs::create_dir_all(to).unwrap();
+    for entry in fs::read_dir(from).unwrap() {
+        let (from, to) = (entry.as_ref().unwrap().path(), to.join(entry.as_ref().unwrap().file_name()));
+        if from.is_dir() {
+            copy(&from, &to);
+        } else {
+            fs::copy(from, to).unwrap();
+        }
+    }
 }
 
 /// What the command says, on standard output and then on standard error.
