@@ -6,4 +6,4 @@ pub returns-in-79 : goal.returns-in-79
 returns-in-79 c = with_opened _ _ _ c.at-record.result c.requires c.at-record.ensures _ c.in-79.is c.added.ensures
 
 pub returns-in_default : goal.returns-in_default
-returns-in_default c = with_other _ _ _ c.at-record.result c.requires c.at-record.ensures c.in_default.rest.1
+returns-in_default c = with_other _ _ _ c.at-record.result c.requires c.at-record.ensures c.in_default.in_default-own.rest.1
