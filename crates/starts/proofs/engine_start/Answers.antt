@@ -10,8 +10,7 @@ use Rattle.starts.proofs.engine_start.Goals as goal
 
 pub returns-then-k-gt-MOST_YARDS : goal.returns-then-k-gt-MOST_YARDS
 unfolding engine_start
-returns-then-k-gt-MOST_YARDS c = let start = c.start-1 in
-    rw (start.given.1, lt-leb start.given.0.0 most_yards c.if-k-gt-MOST_YARDS.true)
+returns-then-k-gt-MOST_YARDS c = let k = c.in-First.k in rw (c.in-First.is, lt-leb k most_yards c.if-k-gt-MOST_YARDS.true)
 
 pub overflow_sub-first_yards : goal.overflow_sub-first_yards
 overflow_sub-first_yards c = let k = c.in-First.k in rw (one_shl 64 k (omega (arith, c.if-k-gt-MOST_YARDS.false))) (pow_pos k)
@@ -26,9 +25,8 @@ returns-in-Cheapest c = rw c.in-Cheapest.is
 
 pub returns-else-k-gt-MOST_YARDS : goal.returns-else-k-gt-MOST_YARDS
 unfolding engine_start limited_start
-returns-else-k-gt-MOST_YARDS c = let start = c.start-1 in
-    let k = start.given.0.0 in
-    rw (start.given.1, le-leb k most_yards c.if-k-gt-MOST_YARDS.false, one_shl 64 k (omega (arith, c.if-k-gt-MOST_YARDS.false)))
+returns-else-k-gt-MOST_YARDS c = let k = c.in-First.k in
+    rw (c.in-First.is, le-leb k most_yards c.if-k-gt-MOST_YARDS.false, one_shl 64 k (omega (arith, c.if-k-gt-MOST_YARDS.false)))
 
 pub returns-in-Given : goal.returns-in-Given
 unfolding engine_start
