@@ -19,7 +19,6 @@ use Rattle.engine.specs.SearchOnTables.{found, searching}
 use Rattle.engine.specs.declared.Neighbourhood.{Neighbourhood}
 use Rattle.engine.specs.declared.Start.{Start}
 use Rattle.engine.specs.declared.Found.{Found}
-use Rattle.engine.specs.declared.Found.TheVariants as Found
 use Rattle.starts.specs.Starts.{start_by, start_refusal, engine_start}
 use Rattle.plan_search.specs.Kinds.{cost_by_lem, outcome_by}
 use Rattle.plan_search.specs.SheetTables.{Holds, most_factor, scaled_fee, scaled_haul}

@@ -32,9 +32,9 @@ pub returns-else-not-fits : goal.returns-else-not-fits
 returns-else-not-fits c = let e = sym c.read.ensures ∙ ap reading_answer c.in-Accepted.is in
     let form = (accepts _ _ _ e).has in
     let q = said_yes (c.plan_fits-fits.ensures ∙ fits_within _ _ _ form.some_yards form.few_yards form.few_farms) c.if-not-fits.false in
-    let told = as_outcome (sym (planned _ _ _ _ _ _ _ e (sym c.start_refusal-refusal.ensures ∙ c.if-refusal-ne0.false) q)) c.plan_on.result _ _ c.plan_on.ensures in
+    let told = as_outcome (sym (planned _ _ _ _ _ _ _ e (sym c.start_refusal-refusal.ensures ∙ c.if-refusal-ne0.false) q)) c.plan_on.result _ _ (c.plan_on.ensures.answer, c.plan_on.ensures.area) in
     record { answer = told.0; area = told.1 }
 
 pub returns-in-Refused : goal.returns-in-Refused
-returns-in-Refused c =  let told = refuses _ _ _ (unread _ _ _ _ _ _ (sym c.read.ensures ∙ ap reading_answer c.in-Refused.is)) in
+returns-in-Refused c = let told = refuses _ _ _ (unread _ _ _ _ _ _ (sym c.read.ensures ∙ ap reading_answer c.in-Refused.is)) in
     record { answer = told.0; area = told.1 }

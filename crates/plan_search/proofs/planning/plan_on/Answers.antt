@@ -14,10 +14,10 @@ fill_fees-requires c = (c.requires.0, (factors_few c.args.kind _ c.terms_of-term
 
 pub fill_rows-requires : goal.fill_rows-requires
 fill_rows-requires c = let form = (accepts _ _ _ c.requires.0).has in (
-      c.requires.0,
-      (factors_few c.args.kind _ c.terms_of-terms.ensures).1,
-      omega (arith, few_places c.args.m c.args.n form.few_yards form.few_farms),
-    )
+  c.requires.0,
+  (factors_few c.args.kind _ c.terms_of-terms.ensures).1,
+  omega (arith, few_places c.args.m c.args.n form.few_yards form.few_farms),
+)
 
 pub search_on-end-requires : goal.search_on-end-requires
 search_on-end-requires c = let a = c.args in
@@ -29,18 +29,18 @@ search_on-end-requires c = let a = c.args in
 
 pub write-requires : goal.write-requires
 write-requires c = let a = c.args in (
-      c.requires.0,
-      c.requires.2,
-      end_cost a.kind a.start a.limit a.sheet.now a.m a.n c.requires.0 c.requires.1 _ c.terms_of-terms.ensures _ _ c.fill_fees.ensures
-          c.fill_rows.ensures c.search_on-end.result c.search_on-end.ensures,
-      end_moves a.kind a.start a.limit a.sheet.now a.m a.n c.requires.0 c.requires.1 _ c.terms_of-terms.ensures _ _ c.fill_fees.ensures
-          c.fill_rows.ensures c.search_on-end.result c.search_on-end.ensures,
-    )
+  c.requires.0,
+  c.requires.2,
+  end_cost a.kind a.start a.limit a.sheet.now a.m a.n c.requires.0 c.requires.1 _ c.terms_of-terms.ensures _ _ c.fill_fees.ensures
+      c.fill_rows.ensures c.search_on-end.result c.search_on-end.ensures,
+  end_moves a.kind a.start a.limit a.sheet.now a.m a.n c.requires.0 c.requires.1 _ c.terms_of-terms.ensures _ _ c.fill_fees.ensures
+      c.fill_rows.ensures c.search_on-end.result c.search_on-end.ensures,
+)
 
 pub returns : goal.returns
 returns c = let a = c.args in
     let told = as_outcome (ap (plan_on a.kind a.sheet.now a.m a.n)
     (end_outcome a.kind a.start a.limit a.sheet.now a.m a.n c.requires.0 c.requires.1 _ c.terms_of-terms.ensures _ _ c.fill_fees.ensures
     c.fill_rows.ensures c.search_on-end.result c.search_on-end.ensures))
-    c.write.result _ _ c.write.ensures in
+    c.write.result _ _ (c.write.ensures.answer, c.write.ensures.area) in
     record { answer = told.0; area = told.1 }

@@ -1,5 +1,4 @@
 use mathlib.Core.Path.{◌≡◌, refl}
-use Prim.Native.Nat.{◌-◌}
 use native.Mathlib.Nat.{lt_of_le_of_lt}
 use native.Mathlib.Omega.{arith}
 use lib.ListN.{length-set}
@@ -37,10 +36,10 @@ loop-i-smaller c = omega arith
 
 pub loop-i-preserved : goal.loop-i-preserved
 loop-i-preserved c = let l = c.loop-i in (
-      omega arith,
-      simp length-set l.invariant.1,
-      fee_more c.args.factor c.args.sheet.now l.i _ l.table (omega (arith, l.invariant.1, c.requires.2)) c.amount_at.ensures l.invariant.2,
-    )
+  omega arith,
+  simp length-set l.invariant.1,
+  fee_more c.args.factor c.args.sheet.now l.i _ l.table (omega (arith, l.invariant.1, c.requires.2)) c.amount_at.ensures l.invariant.2,
+)
 
 pub returns : goal.returns
 returns c = let l = c.loop-i in

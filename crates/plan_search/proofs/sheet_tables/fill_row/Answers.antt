@@ -1,5 +1,5 @@
 use mathlib.Core.Path.{◌≡◌, refl, sym, ap, subst, ◌∙◌}
-use Prim.Native.Nat.{ℕ, ◌+◌, ◌-◌, ◌*◌, ◌<◌}
+use Prim.Native.Nat.{ℕ, ◌+◌, ◌*◌, ◌<◌}
 use native.Mathlib.Nat.{lt_of_le_of_lt, lt_of_lt_of_le, add-zero}
 use native.Mathlib.Omega.{arith}
 use lib.ListN.{length, length-set}
@@ -30,7 +30,7 @@ overflow_cast-table c = let a = c.args in
     record { fits = lt_of_le_of_lt small (omega arith) }
 
 pub overflow_mul-cost : goal.overflow_mul-cost
-overflow_mul-cost c = record { fits = lt_of_lt_of_le (cast-table c).ranges (omega arith) }
+overflow_mul-cost c = record { fits = lt_of_lt_of_le (overflow_cast-table c).fits (omega arith) }
 
 pub overflow_mul-table : goal.overflow_mul-table
 overflow_mul-table c = let a = c.args in

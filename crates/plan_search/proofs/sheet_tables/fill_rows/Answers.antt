@@ -1,5 +1,4 @@
 use mathlib.Core.Path.{◌≡◌, refl, ◌∙◌}
-use Prim.Native.Nat.{◌-◌}
 use native.Mathlib.Omega.{arith}
 use Rattle.plan_search.proofs.SheetTableLaws.{no_rows, next_row}
 use Rattle.plan_search.proofs.sheet_tables.fill_rows.Goals as goal
