@@ -11,18 +11,18 @@ use Rattle.plan_area.specs.Plan.{plan_set}
 use Rattle.plan_search.specs.Planning.{Told, told, searched_answer, OfSettled, OfStopped}
 use Rattle.plan_search.specs.declared.Searched.{Searched}
 use Rattle.plan_search.specs.declared.Searched.TheVariants.{Settled, Stopped, Refused}
-use Rattle.numbers.specs.Numbers.{refusal, bytes_written, moves_made}
-use Rattle.search_numbers.specs.SearchNumbers.{searched_number, was_stopped, WhereSettled, WhereStopped, SearchKeepsBits}
+use Rattle.numbers.specs.Numbers.{refusal, moves_made}
+use Rattle.search_numbers.specs.SearchNumbers.{searched_number, was_stopped, bytes_told, WhereSettled, WhereStopped, SearchKeepsBits}
 
 -- no refusal, whether it was stopped, the bytes and the moves, or the refusal number, which is not 0
 abbrev pub SearchSaid : Answer Told → Type 0
 SearchSaid (accepted t) =
     (refusal (searched_number (accepted t)) ≡ 0) × (was_stopped (searched_number (accepted t)) ≡ t.stopped)
-    × (bytes_written (searched_number (accepted t)) ≡ t.bytes) × (moves_made (searched_number (accepted t)) ≡ t.moves)
+    × (bytes_told (searched_number (accepted t)) ≡ t.bytes) × (moves_made (searched_number (accepted t)) ≡ t.moves)
 SearchSaid (refused k) = (refusal (searched_number (refused k)) ≡ k) × (1 ≤ k)
 
 parts : (stopped : Bool) (set bytes moves : ℕ) → SearchKeepsBits (accepted (told stopped set bytes moves)) → SearchSaid (accepted (told stopped set bytes moves))
-unfolding refusal was_stopped bytes_written moves_made
+unfolding refusal was_stopped bytes_told moves_made
 parts true set bytes moves (few, small) =
     let r = searched_number (accepted (told true set bytes moves)) in
     let bit : r / 2 ^ 31 % 2 ≡ 1 = omega arith in
@@ -43,7 +43,7 @@ module _ (r : ℕ) (area : List ℕ) (P : ℕ → Type 0) where
   pub where_settled : (x : Searched) → SearchKeepsBits (searched_answer x) → r ≡ searched_number (searched_answer x) → OfSettled x area P → WhereSettled r area P
   where_settled (Settled set bytes moves) within e h accepts stays =
       let says = search_said (searched_answer (Settled set bytes moves)) within in
-      subst (λ b. P (plan_set area b)) (sym (ap bytes_written e ∙ says.2)) (h set bytes moves refl)
+      subst (λ b. P (plan_set area b)) (sym (ap bytes_told e ∙ says.2)) (h set bytes moves refl)
   where_settled (Stopped set bytes moves) within e h accepts stays =
       let says = search_said (searched_answer (Stopped set bytes moves)) within in
       clash (ap was_stopped e ∙ says.1) stays
@@ -56,6 +56,6 @@ module _ (r : ℕ) (area : List ℕ) (P : ℕ → Type 0) where
       clash stops (ap was_stopped e ∙ says.1)
   where_stopped (Stopped set bytes moves) within e h accepts stops =
       let says = search_said (searched_answer (Stopped set bytes moves)) within in
-      subst (λ b. P (plan_set area b)) (sym (ap bytes_written e ∙ says.2)) (h set bytes moves refl)
+      subst (λ b. P (plan_set area b)) (sym (ap bytes_told e ∙ says.2)) (h set bytes moves refl)
   where_stopped (Refused k) within e h accepts stops =
       absurd (omega (arith, sym (search_said (searched_answer (Refused k)) within).0 ∙ sym (ap refusal e) ∙ accepts, within.0))

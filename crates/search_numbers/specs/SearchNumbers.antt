@@ -3,7 +3,7 @@ use Rattle.std.specs.Prelude.{ℕ, ◌+◌, ◌*◌, ◌/◌, ◌%◌, ◌^◌, 
 use Rattle.model.specs.Answers.{Answer, accepted, refused}
 use Rattle.plan_area.specs.Plan.{plan_set}
 use Rattle.plan_search.specs.Planning.{Told}
-use Rattle.numbers.specs.Numbers.{refusal, bytes_written}
+use Rattle.numbers.specs.Numbers.{refusal}
 
 -- bit 31
 abbrev pub stopped_bit : Bool → ℕ
@@ -15,7 +15,11 @@ abbrev pub searched_number : Answer Told → ℕ
 searched_number (accepted t) = t.bytes % 2 ^ 23 * 2 ^ 8 + stopped_bit t.stopped + t.moves * 2 ^ 32
 searched_number (refused k) = k
 
--- ---- what a caller reads off the number; bits 0 to 30 and 32 to 63 as for every plan
+-- ---- what a caller reads off the number; bits 0 to 7 and 32 to 63 as for every plan
+
+-- bits 8 to 30: the bytes written
+unfoldable pub bytes_told : ℕ → ℕ
+bytes_told r = r / 2 ^ 8 % 2 ^ 23
 
 -- bit 31
 unfoldable pub was_stopped : ℕ → Bool
@@ -23,10 +27,10 @@ was_stopped r = eqb (r / 2 ^ 31 % 2) 1
 
 -- what holds of the set in the area, where the number says that the search settled, and where it was stopped
 abbrev pub WhereSettled : ℕ → List ℕ → (ℕ → Type 0) → Type 0
-WhereSettled r area P = refusal r ≡ 0 → was_stopped r ≡ false → P (plan_set area (bytes_written r))
+WhereSettled r area P = refusal r ≡ 0 → was_stopped r ≡ false → P (plan_set area (bytes_told r))
 
 abbrev pub WhereStopped : ℕ → List ℕ → (ℕ → Type 0) → Type 0
-WhereStopped r area P = refusal r ≡ 0 → was_stopped r ≡ true → P (plan_set area (bytes_written r))
+WhereStopped r area P = refusal r ≡ 0 → was_stopped r ≡ true → P (plan_set area (bytes_told r))
 
 -- and in either case
 abbrev pub WhereSearched : ℕ → List ℕ → (ℕ → Type 0) → Type 0
