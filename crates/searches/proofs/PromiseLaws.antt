@@ -31,12 +31,12 @@ use Rattle.starts.specs.declared.PlanStart.{PlanStart}
 use Rattle.starts.specs.declared.PlanStart.TheVariants.{First, Given}
 use Rattle.plan_search.specs.declared.Searched.{Searched}
 use Rattle.starts.proofs.StartLaws.{start_good, first_within}
-use Rattle.plan_search.proofs.OutcomeLaws.{first_set, outcome_keeps, outcome_not_dearer, outcome_settled}
+use Rattle.plan_search.proofs.OutcomeLaws.{first_set, outcome_keeps, outcome_not_dearer, outcome_settled, outcome_after, outcome_left}
 use Rattle.plan_search.proofs.PlanningLaws.{Passed, set_reached, stopped_as, passed_start}
 use Rattle.plan_search.proofs.OfSearchLaws.{of_settled, of_stopped}
 use Rattle.search.specs.Promises.{OfSize, BoundedByRivals, BoundedByRivalsOf}
 use Rattle.searches.specs.SearchingBy.{search_planning_by}
-use Rattle.searches.specs.Promises.{OfSearched, NoMoveBy, SettledBy, NoDearerThanStart, NotDearerBy, OpenBounded, LimitedSized, LimitedBounded}
+use Rattle.searches.specs.Promises.{OfSearched, NoMoveBy, SettledBy, StoppedAfter, StoppedBy, NoDearerThanStart, NotDearerBy, OpenSearchBounded, LimitedSearchSized, LimitedSearchBounded}
 
 -- ---- of the set that a search reached
 
@@ -58,6 +58,17 @@ module _ (kind : PlanKind) (start : PlanStart) (limit : ℕ) (s : List ℕ) (roo
   no_move : p.stopped ≡ false → NoMoveBy kind s p.set
   unfolding instance_of instance_by
   no_move stop = reached (NoMoveBy kind s) (outcome_settled kind (instance_of s) limit start (settled stop))
+
+  -- it is the one after so many moves of the search, and has a move left
+  after_all : p.stopped ≡ true → StoppedAfter kind start limit s p.set
+  unfolding instance_of instance_by
+  after_all stop =
+      let left = outcome_left kind (instance_of s) limit start (sym (stopped_as passed) ∙ stop) in
+      reached (StoppedAfter kind start limit s)
+      (record {
+        after = outcome_after kind (instance_of s) limit start;
+        left = record { move = left.0; among = left.1; lower = left.2 };
+      })
 
   no_dearer : NoDearerThanStart kind start s p.set
   unfolding instance_of instance_by
@@ -126,6 +137,9 @@ module _ (kind : PlanKind) (start : PlanStart) (limit : ℕ) (s : List ℕ) (r :
   search_settled : SettledBy kind s r next
   search_settled = of_settled kind start limit s r area next says leaves (NoMoveBy kind s) (no_move kind start limit s (length area))
 
+  search_stopped : StoppedBy kind start limit s r next
+  search_stopped = of_stopped kind start limit s r area next says leaves (StoppedAfter kind start limit s) (after_all kind start limit s (length area))
+
   -- settled or stopped
   either : (P : ℕ → Type 0) → ((p : SearchPlan) → Passed kind start limit s (length area) p → P p.set) → OfSearched r next P
   either P holds = (
@@ -163,6 +177,9 @@ module _ (kind : PlanKind) (start : PlanStart) (limit : ℕ) (choice : TariffCho
   settled_by : OnHauls (sheet_by choice tariff s) (λ h. SettledBy kind h r next)
   settled_by = on_hauls (λ h. SettledBy kind h r next) (λ h. search_settled kind start limit h r area next)
 
+  stopped_by : OnHauls (sheet_by choice tariff s) (λ h. StoppedBy kind start limit h r next)
+  stopped_by = on_hauls (λ h. StoppedBy kind start limit h r next) (λ h. search_stopped kind start limit h r area next)
+
   not_dearer_by : OnHauls (sheet_by choice tariff s) (λ h. NotDearerBy kind start h r next)
   not_dearer_by = on_hauls (λ h. NotDearerBy kind start h r next) (λ h. search_not_dearer kind start limit h r area next)
 
@@ -182,7 +199,9 @@ module _ (start : PlanStart) (limit : ℕ) (choice : TariffChoice) (tariff s : L
       → (searched_answer r ≡ search_answer (search_planning_by Open start limit choice tariff s (length area)))
       × ((next ≡ area_after (plan_left (search_planning_by Open start limit choice tariff s (length area))) area)
       × (OnHauls (sheet_by choice tariff s) (λ h. SettledBy Open h r next)
-      × (OnHauls (sheet_by choice tariff s) (λ h. OpenBounded h r next) × OnHauls (sheet_by choice tariff s) (λ h. NotDearerBy Open start h r next))))
+      × (OnHauls (sheet_by choice tariff s) (λ h. OpenSearchBounded h r next)
+      × (OnHauls (sheet_by choice tariff s) (λ h. StoppedBy Open start limit h r next)
+      × OnHauls (sheet_by choice tariff s) (λ h. NotDearerBy Open start h r next)))))
   open_promises e = (
     e.0,
     (
@@ -190,9 +209,12 @@ module _ (start : PlanStart) (limit : ℕ) (choice : TariffChoice) (tariff s : L
       (
         settled_by Open start limit choice tariff s r area next e.0 e.1,
         (
-          on_hauls Open start limit choice tariff s r area next e.0 e.1 (λ h. OpenBounded h r next)
+          on_hauls Open start limit choice tariff s r area next e.0 e.1 (λ h. OpenSearchBounded h r next)
               (λ h says leaves. of_settled Open start limit h r area next says leaves (BoundedByRivals h) (open_within start limit h (length area))),
-          not_dearer_by Open start limit choice tariff s r area next e.0 e.1,
+          (
+            stopped_by Open start limit choice tariff s r area next e.0 e.1,
+            not_dearer_by Open start limit choice tariff s r area next e.0 e.1,
+          ),
         ),
       ),
     ),
@@ -205,25 +227,29 @@ module _ (start : PlanStart) (limit : ℕ) (choice : TariffChoice) (tariff s : L
       → (e : Equations Limited start limit choice tariff s r area next)
       → (searched_answer r ≡ search_answer (search_planning_by Limited start limit choice tariff s (length area)))
       × ((next ≡ area_after (plan_left (search_planning_by Limited start limit choice tariff s (length area))) area)
-      × (OnHauls (sheet_by choice tariff s) (λ h. LimitedSized h (size h) r next)
+      × (OnHauls (sheet_by choice tariff s) (λ h. LimitedSearchSized h (size h) r next)
       × (OnHauls (sheet_by choice tariff s) (λ h. SettledBy Limited h r next)
-      × (OnHauls (sheet_by choice tariff s) (λ h. LimitedBounded h (size h) r next)
-      × OnHauls (sheet_by choice tariff s) (λ h. NotDearerBy Limited start h r next)))))
+      × (OnHauls (sheet_by choice tariff s) (λ h. LimitedSearchBounded h (size h) r next)
+      × (OnHauls (sheet_by choice tariff s) (λ h. StoppedBy Limited start limit h r next)
+      × OnHauls (sheet_by choice tariff s) (λ h. NotDearerBy Limited start h r next))))))
   limited_promises size sized e = (
     e.0,
     (
       e.1,
       (
-        on_hauls Limited start limit choice tariff s r area next e.0 e.1 (λ h. LimitedSized h (size h) r next)
+        on_hauls Limited start limit choice tariff s r area next e.0 e.1 (λ h. LimitedSearchSized h (size h) r next)
             (λ h says leaves. either Limited start limit h r area next says leaves (OfSize h (size h))
             (λ p passed. limited_size start limit h (length area) p (size h) passed (sized h p passed))),
         (
           settled_by Limited start limit choice tariff s r area next e.0 e.1,
           (
-            on_hauls Limited start limit choice tariff s r area next e.0 e.1 (λ h. LimitedBounded h (size h) r next)
+            on_hauls Limited start limit choice tariff s r area next e.0 e.1 (λ h. LimitedSearchBounded h (size h) r next)
                 (λ h says leaves. of_settled Limited start limit h r area next says leaves (BoundedByRivalsOf h (size h))
                 (λ p passed stop. limited_within start limit h (length area) p (size h) passed (sized h p passed) stop)),
-            not_dearer_by Limited start limit choice tariff s r area next e.0 e.1,
+            (
+              stopped_by Limited start limit choice tariff s r area next e.0 e.1,
+              not_dearer_by Limited start limit choice tariff s r area next e.0 e.1,
+            ),
           ),
         ),
       ),

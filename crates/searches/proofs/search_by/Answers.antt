@@ -20,7 +20,7 @@ unfolding search_planning_by
 returns-in-AsWritten c = let a = c.args in
     let planned = c.search_plan in
     let told = as_outcome (as_written _ _ _ _ (search rules) _ _ c.hauls_by.ensures.hauls (λ h. search_planning a.kind a.start a.limit h (length a.area.now)) c.in-AsWritten.is)
-    planned.result _ _ planned.ensures in
+    planned.result _ _ (planned.ensures.answer, planned.ensures.area) in
     record { answer = told.0; area = told.1 }
 
 pub returns-in-Priced : goal.returns-in-Priced
@@ -29,7 +29,7 @@ returns-in-Priced c = let a = c.args in
     let planned = c.search_plan-in-Priced in
     let told = as_outcome (as_priced _ _ _ _ (search rules) _ _ c.hauls_by.ensures.hauls (λ h. search_planning a.kind a.start a.limit h (length a.area.now))
     (searching_first a.kind a.start a.limit (length a.area.now)) _ c.in-Priced.is)
-    planned.result _ _ planned.ensures in
+    planned.result _ _ (planned.ensures.answer, planned.ensures.area) in
     record { answer = told.0; area = told.1 }
 
 pub returns-in-Refused : goal.returns-in-Refused
