@@ -10,7 +10,8 @@ use Rattle.plan_search.proofs.search_plan.Goals as goal
 
 pub returns-then-refusal-ne0 : goal.returns-then-refusal-ne0
 returns-then-refusal-ne0 c = let e = sym c.read.ensures ∙ ap reading_answer c.in-Accepted.is in
-    let told = refuses _ _ _ (bad_start _ _ _ _ _ _ _ e (λ z. c.if-refusal-ne0.true (c.start_refusal-refusal.ensures ∙ z)) ∙ ap refused (sym c.start_refusal-refusal.ensures)) in
+    let told = refuses _ _ _ (bad_start _ _ _ _ _ _ _ e (λ z. c.if-refusal-ne0.true (c.start_refusal-refusal.ensures ∙ z))
+    ∙ ap refused (sym c.start_refusal-refusal.ensures)) in
     record { answer = told.0; area = told.1 }
 
 pub returns-then-not-fits : goal.returns-then-not-fits
@@ -32,7 +33,8 @@ pub returns-else-not-fits : goal.returns-else-not-fits
 returns-else-not-fits c = let e = sym c.read.ensures ∙ ap reading_answer c.in-Accepted.is in
     let form = (accepts _ _ _ e).has in
     let q = said_yes (c.plan_fits-fits.ensures ∙ fits_within _ _ _ form.some_yards form.few_yards form.few_farms) c.if-not-fits.false in
-    let told = as_outcome (sym (planned _ _ _ _ _ _ _ e (sym c.start_refusal-refusal.ensures ∙ c.if-refusal-ne0.false) q)) c.plan_on.result _ _ (c.plan_on.ensures.answer, c.plan_on.ensures.area) in
+    let told = as_outcome (sym (planned _ _ _ _ _ _ _ e
+    (sym c.start_refusal-refusal.ensures ∙ c.if-refusal-ne0.false) q)) c.plan_on.result _ _ (c.plan_on.ensures.answer, c.plan_on.ensures.area) in
     record { answer = told.0; area = told.1 }
 
 pub returns-in-Refused : goal.returns-in-Refused

@@ -6,6 +6,15 @@ use Rattle.searches.proofs.limited_search.Goals as goal
 
 pub returns : goal.returns
 returns c = let a = c.args in
-    let told = limited_promises (First a.k) a.limit _ _ _ _ a.area.now _ (λ h. a.k) (λ h p passed. first_size a.limit h (length a.area.now) p a.k passed)
+    let told = limited_promises (First a.k) a.limit _ _ _ _ a.area.now _ (λ h. a.k)
+    (λ h p passed. first_size a.limit h (length a.area.now) p a.k passed)
     (c.search_by.ensures.answer, c.search_by.ensures.area) in
-    record { answer = told.0; area = told.1.0; sized = told.1.1.0; settled = told.1.1.1.0; bounded = told.1.1.1.1.0; stopped = told.1.1.1.1.1.0; not_dearer = told.1.1.1.1.1.1 }
+    record {
+      answer = told.0;
+      area = told.1.0;
+      sized = told.1.1.0;
+      settled = told.1.1.1.0;
+      bounded = told.1.1.1.1.0;
+      stopped = told.1.1.1.1.1.0;
+      not_dearer = told.1.1.1.1.1.1;
+    }

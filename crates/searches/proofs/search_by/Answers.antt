@@ -19,7 +19,8 @@ pub returns-in-AsWritten : goal.returns-in-AsWritten
 unfolding search_planning_by
 returns-in-AsWritten c = let a = c.args in
     let planned = c.search_plan in
-    let told = as_outcome (as_written _ _ _ _ (search rules) _ _ c.hauls_by.ensures.hauls (λ h. search_planning a.kind a.start a.limit h (length a.area.now)) c.in-AsWritten.is)
+    let told = as_outcome (as_written _ _ _ _ (search rules) _ _ c.hauls_by.ensures.hauls
+    (λ h. search_planning a.kind a.start a.limit h (length a.area.now)) c.in-AsWritten.is)
     planned.result _ _ (planned.ensures.answer, planned.ensures.area) in
     record { answer = told.0; area = told.1 }
 
@@ -27,7 +28,8 @@ pub returns-in-Priced : goal.returns-in-Priced
 unfolding search_planning_by
 returns-in-Priced c = let a = c.args in
     let planned = c.search_plan-in-Priced in
-    let told = as_outcome (as_priced _ _ _ _ (search rules) _ _ c.hauls_by.ensures.hauls (λ h. search_planning a.kind a.start a.limit h (length a.area.now))
+    let told = as_outcome (as_priced _ _ _ _ (search rules) _ _ c.hauls_by.ensures.hauls
+    (λ h. search_planning a.kind a.start a.limit h (length a.area.now))
     (searching_first a.kind a.start a.limit (length a.area.now)) _ c.in-Priced.is)
     planned.result _ _ (planned.ensures.answer, planned.ensures.area) in
     record { answer = told.0; area = told.1 }
@@ -35,5 +37,6 @@ returns-in-Priced c = let a = c.args in
 pub returns-in-Refused : goal.returns-in-Refused
 unfolding search_planning_by
 returns-in-Refused c = let a = c.args in
-    let told = refuses _ a.area.now _ (sym (as_refused _ _ _ _ (search rules) _ _ c.hauls_by.ensures.hauls (λ h. search_planning a.kind a.start a.limit h (length a.area.now)) _ c.in-Refused.is)) in
+    let told = refuses _ a.area.now _ (sym (as_refused _ _ _ _ (search rules) _ _ c.hauls_by.ensures.hauls
+    (λ h. search_planning a.kind a.start a.limit h (length a.area.now)) _ c.in-Refused.is)) in
     record { answer = told.0; area = told.1 }

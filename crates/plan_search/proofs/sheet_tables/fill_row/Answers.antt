@@ -16,11 +16,17 @@ overflow_mul-loads c = let a = c.args in
     record { fits = lt_of_le_of_lt small (omega arith) }
 
 pub loop-a-init : goal.loop-a-init
-loop-a-init c = (omega arith, refl, subst (λ (k : ℕ). Holds (scaled_haul c.args.factor c.args.sheet.now c.args.m) k c.args.table.now) (sym (add-zero (c.args.farm * c.args.m))) c.requires.4)
+loop-a-init c = (
+  omega arith,
+  refl,
+  subst (λ (k : ℕ). Holds (scaled_haul c.args.factor c.args.sheet.now c.args.m) k c.args.table.now)
+      (sym (add-zero (c.args.farm * c.args.m))) c.requires.4,
+)
 
 pub amount_at-requires : goal.amount_at-requires
 amount_at-requires c = let a = c.args in
-    let long = ap length c.farm_stretch-hauls.ensures ∙ stretch_length a.sheet.now a.m a.n a.farm (shape_of (accepts _ _ _ c.requires.0).has) c.requires.2 in
+    let long = ap length c.farm_stretch-hauls.ensures ∙ stretch_length a.sheet.now a.m a.n a.farm
+    (shape_of (accepts _ _ _ c.requires.0).has) c.requires.2 in
     omega arith
 
 pub overflow_cast-table : goal.overflow_cast-table
