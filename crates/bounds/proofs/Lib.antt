@@ -7,3 +7,4 @@ pub mod Theorems
 pub mod Lists
 pub mod Example
 pub mod Searches
+pub mod SettledSearches

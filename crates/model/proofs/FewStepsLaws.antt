@@ -52,6 +52,15 @@ module _ (cost : ℕ → ℕ) (neighbours : ℕ → List ℕ) (n : ℕ) (keeps :
         | no g ↦ rw (descend_stops cost neighbours (suc fuel) set steps (omega arith)) (le_refl (steps + count n (cheaper cost set)))
       ]
 
+  pub descend_few : (limit start : ℕ) → start < n → (Search.descend cost neighbours limit start 0).steps < n
+  unfolding cheaper
+  descend_few limit start small =
+      omega (
+        arith,
+        descend_fewer limit start 0 small,
+        count_missing n start (cheaper cost start) small (le-ltb (cost start) (cost start) (le_refl (cost start))),
+      )
+
   -- a limit that is not below n - 1 never stops a search: an unbroken one is the search within that limit
   pub never_stopped : (limit start : ℕ) → start < n → n ≤ suc limit → (search_within cost neighbours limit start).stopped ≡ false
   unfolding cheaper

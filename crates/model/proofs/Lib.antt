@@ -15,6 +15,7 @@ pub mod PackedLaws
 pub mod CostLaws
 pub mod QuickMetricLaws
 pub mod ChargeLaws
+pub mod ScaledLaws
 pub mod ClosingLaws
 pub mod FloorLaws
 pub mod NearestChangeLaws
@@ -24,4 +25,6 @@ pub mod SearchLaws
 pub mod LimitLaws
 pub mod FewStepsLaws
 pub mod PlanLaws
+pub mod PlansWithinLaws
 pub mod Example
+pub mod PaperExamples

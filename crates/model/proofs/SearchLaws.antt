@@ -126,6 +126,11 @@ module _ (cost : ℕ → ℕ) where
     unfolding Search.next
     no_step set h x k = le_trans h (best_least set (neighbours set) x k)
 
+    -- there the next set is the set itself
+    pub next_stays : (set : ℕ) → cost set ≤ cost (next set) → next set ≡ set
+    unfolding Search.next
+    next_stays set h = best_stays set (neighbours set) h
+
     pub descend_stops : (fuel set steps : ℕ) → cost set ≤ cost (next set) → descend fuel set steps ≡ reached set steps
     unfolding Search.descend
     descend_stops zero set steps h = refl

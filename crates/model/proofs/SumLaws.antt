@@ -1,6 +1,6 @@
 -- Laws of finite sums.
 use Prim.Native.Nat.{ℕ, zero, suc, ◌+◌, ◌*◌, ◌≤◌, ◌<◌, zero-le}
-use native.Mathlib.Nat.{le_refl, le-suc, le_trans, le_step, lt-suc_self, add-le-add, not-suc-le-zero}
+use native.Mathlib.Nat.{le_refl, le-suc, le_trans, le_step, lt-suc_self, add-le-add, mul-zero, not-suc-le-zero}
 use native.Mathlib.Numerals.{add-one}
 use native.Mathlib.Omega.{arith}
 use mathlib.Core.Path.{◌≡◌, refl, sym, ap, ap₂, ◌∙◌}
@@ -143,6 +143,10 @@ pub on_mono : (b : Bool) {x y : ℕ} → x ≤ y → on b x ≤ on b y
 on_mono true h = h
 on_mono false h = zero-le
 
+pub on_mul : (b : Bool) (k x : ℕ) → on b (k * x) ≡ k * on b x
+on_mul true k x = refl
+on_mul false k x = sym (mul-zero k)
+
 pub on_swap : (a b : Bool) (x : ℕ) → on a (on b x) ≡ on b (on a x)
 on_swap true b x = refl
 on_swap false b x = sym (on_zero b)
@@ -180,6 +184,10 @@ sum_on_same (suc m) k S w h = go (S m) (sum_on_same m k S w (λ i l. h i (le_ste
         → sum m (λ i. on (S i) (w i)) + on b (w m) ≡ (sum m (λ i. on (S i) 1) + on b 1) * k
     go true ih = omega (arith, ih, h m (lt-suc_self m))
     go false ih = omega (arith, ih)
+
+-- a common factor over the members of a set
+pub sum_on_mul : (m k : ℕ) (S : ℕ → Bool) (w : ℕ → ℕ) → sum m (λ i. on (S i) (k * w i)) ≡ k * sum m (λ i. on (S i) (w i))
+sum_on_mul m k S w = sum_cong m (λ i l. on_mul (S i) k (w i)) ∙ sum_mul m k (λ i. on (S i) (w i))
 
 -- an inequality at each member of H, summed
 pub sum_over : (m : ℕ) (H : ℕ → Bool) (a b c d : ℕ → ℕ) → ((i : ℕ) → i < m → H i ≡ true → a i + b i ≤ c i + d i)

@@ -1,0 +1,2 @@
+-- EndLaws: on tables filled from a sheet the engine ends where the sheet's search does.
+mod EndLaws

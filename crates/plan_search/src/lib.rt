@@ -1,0 +1,59 @@
+// From a sheet to the plan that a search reaches, whatever its kind, its start and its limit on moves.
+//
+// `search_plan` asks what reading asks, the question of the start and question 9, reads the sheet once into tables, runs the search of `engine`
+// on them and writes the plan of the set reached. Every plan that is searched goes this one way. The call is total.
+
+#![tactic(auto)]
+
+mod planning;
+mod sheet_tables;
+
+ghost use Rattle.std.specs.Prelude.{◌≡◌, length};
+ghost use Rattle.price.specs.Pricing.{area_after};
+ghost use Rattle.plan_search.specs.Planning.{searched_answer, search_answer, plan_left, search_planning};
+
+use sheet::Reading;
+use starts::PlanStart;
+
+// What a search goes by. Open: fees and hauls, by adds, drops and swaps of yards. Limited: hauls alone, by swaps.
+#[derive(Clone, Copy)]
+pub enum PlanKind {
+    Open,
+    Limited,
+}
+
+// What a call that searches answers. Settled: no move lowers the cost. Stopped: as many moves as it may were made, and another would lower the
+// cost. With the set reached, the bytes of its plan and the moves made. Refused: the number of the first question that is answered no.
+#[derive(Clone, Copy)]
+pub enum Searched {
+    Settled { set: u32, bytes: usize, moves: u32 },
+    Stopped { set: u32, bytes: usize, moves: u32 },
+    Refused(u8),
+}
+
+// Writes the plan that a search with at most `limit` moves reaches to the front of the area. A refused call leaves the area as it was.
+pub fn search_plan(
+    kind: PlanKind,
+    start: PlanStart,
+    limit: u64,
+    sheet: &[u8],
+    area: &mut [u8],
+) -> Searched
+    ensures answer { searched_answer result ≡ search_answer (search_planning kind start limit sheet.now (length area.old)) }
+    ensures area { area.new ≡ area_after (plan_left (search_planning kind start limit sheet.now (length area.old))) area.old }
+{
+    match sheet::read(sheet) {
+        Reading::Accepted { yards, farms } => {
+            let refusal = starts::start_refusal(start, yards);
+            if refusal != 0 {
+                return Searched::Refused(refusal);
+            }
+            let fits = plan_area::plan_fits(yards, farms, area.len());
+            if !fits {
+                return Searched::Refused(9);
+            }
+            planning::plan_on(kind, start, limit, sheet, yards, farms, area)
+        }
+        Reading::Refused(number) => Searched::Refused(number),
+    }
+}

@@ -1,0 +1,2 @@
+-- OpenedLaws: a loop over records collects their yards.
+pub mod OpenedLaws

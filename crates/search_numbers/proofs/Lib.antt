@@ -1,0 +1,2 @@
+-- SearchSaidLaws: what the number says is what the call answered.
+pub mod SearchSaidLaws
