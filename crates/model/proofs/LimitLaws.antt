@@ -129,15 +129,19 @@ module _ (cost : ℕ → ℕ) (neighbours : ℕ → List ℕ) where
         let l = stopped_next h in
         (next got.set, step_among cost neighbours got.set l, l)
 
-    -- and where one would, it is stopped: that all the steps were made then follows
-    pub stopped_when : (x : ℕ) → Among x (neighbours got.set) → cost x < cost got.set → got.stopped ≡ true
+    -- where a step is left all were made, so it is stopped
+    stopped_when : cost (next got.set) < cost got.set → got.stopped ≡ true
     unfolding Limit.search_within Limit.outcome
-    stopped_when x among lower =
+    stopped_when lower =
         let r = descend limit start 0 in
-        elim (dec_lt (cost (next r.set)) (cost r.set)) [
-          | yes l ↦
-              and_both (eq-eqb r.steps limit (descend_all limit start 0 l ∙ add-zero limit)) (lt-ltb (cost (next r.set)) (cost r.set) l)
-          | no g ↦ absurd (omega (arith, no_step cost neighbours r.set (omega arith) x among))
+        and_both (eq-eqb r.steps limit (descend_all limit start 0 lower ∙ add-zero limit)) (lt-ltb (cost (next r.set)) (cost r.set) lower)
+
+    -- and where another move would lower the cost
+    pub stopped_where : (x : ℕ) → Among x (neighbours got.set) → cost x < cost got.set → got.stopped ≡ true
+    stopped_where x among lower =
+        elim (dec_lt (cost (next got.set)) (cost got.set)) [
+          | yes l ↦ stopped_when l
+          | no g ↦ absurd (omega (arith, no_step cost neighbours got.set (omega arith) x among))
         ]
 
     -- ---- settled
@@ -145,7 +149,7 @@ module _ (cost : ℕ → ℕ) (neighbours : ℕ → List ℕ) where
     settled_next : got.stopped ≡ false → cost got.set ≤ cost (next got.set)
     settled_next h =
         elim (dec_lt (cost (next got.set)) (cost got.set)) [
-          | yes l ↦ clash (stopped_when (next got.set) (step_among cost neighbours got.set l) l) h
+          | yes l ↦ clash (stopped_when l) h
           | no g ↦ omega arith
         ]
 

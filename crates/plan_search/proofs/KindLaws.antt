@@ -15,7 +15,7 @@ use Rattle.model.proofs.NeighbourLaws.{moves_keep, swaps_keep}
 use Rattle.record.specs.Records.{amount_end}
 use Rattle.plan_area.specs.Plan.{total_amount}
 use Rattle.engine.specs.Moves.{neighbours_by}
-use Rattle.plan_search.specs.Kinds.{cost_by_lem, moves_by, total_by}
+use Rattle.plan_search.specs.Kinds.{cost_by_kind, moves_by, total_by}
 use Rattle.plan_search.specs.SheetTables.{most_factor}
 use Rattle.plan_search.specs.Terms.{terms_of, total_shown}
 use Rattle.plan_search.specs.declared.PlanKind.{PlanKind}
@@ -24,8 +24,8 @@ use Rattle.plan_search.specs.declared.PlanKind.TheVariants.{Open, Limited}
 -- ---- what the engine is asked
 
 pub cost_terms : (kind : PlanKind) (I : Instance) (set : ℕ)
-    → cost_by_lem kind I set ≡ (terms_of kind).fees * opening_cost I (member set) + (terms_of kind).hauls * service_cost I (member set)
-unfolding cost_by_lem terms_of open_cost limited_cost total_cost
+    → cost_by_kind kind I set ≡ (terms_of kind).fees * opening_cost I (member set) + (terms_of kind).hauls * service_cost I (member set)
+unfolding cost_by_kind terms_of open_cost limited_cost total_cost
 cost_terms Open I set = sym (ap₂ ◌+◌ (one-mul (opening_cost I (member set))) (one-mul (service_cost I (member set))))
 cost_terms Limited I set =
     sym (ap₂ ◌+◌ (zero-mul (opening_cost I (member set))) (one-mul (service_cost I (member set))) ∙ zero-add (service_cost I (member set)))
@@ -43,8 +43,8 @@ moves_terms Limited m = refl
 -- ---- the total, where costs fit an amount
 
 pub total_shown_lem : (kind : PlanKind) (I : Instance) (set : ℕ) → total_cost I (member set) < amount_end → service_cost I (member set) < amount_end
-    → total_amount (total_shown kind (cost_by_lem kind I set)) (total_cost I (member set)) ≡ total_by kind I set
-unfolding total_shown total_by cost_by_lem open_cost limited_cost
+    → total_amount (total_shown kind (cost_by_kind kind I set)) (total_cost I (member set)) ≡ total_by kind I set
+unfolding total_shown total_by cost_by_kind open_cost limited_cost
 total_shown_lem Open I set total service = mod-eq_of_lt total
 total_shown_lem Limited I set total service = mod-eq_of_lt service
 

@@ -13,11 +13,11 @@ use Rattle.model.specs.Passing.{through}
 use Rattle.model.specs.Search.{Among, NoLower, next, search}
 use Rattle.model.specs.Limit.{Outcome}
 use Rattle.model.proofs.FewStepsLaws.{descend_few, never_stopped}
-use Rattle.model.proofs.LimitLaws.{within_keeps, within_steps, within_after, within_never_dearer, stopped_steps, stopped_lower, stopped_when, settled_no_lower, settled_search, goes_on}
+use Rattle.model.proofs.LimitLaws.{within_keeps, within_steps, within_after, within_never_dearer, stopped_steps, stopped_lower, stopped_where, settled_no_lower, settled_search, goes_on}
 use Rattle.questions.specs.Bounds.{most_yards}
 use Rattle.engine.specs.Bounds.{no_limit}
 use Rattle.starts.specs.Starts.{start_by, start_refusal}
-use Rattle.plan_search.specs.Kinds.{cost_by_lem, moves_by, outcome_by}
+use Rattle.plan_search.specs.Kinds.{cost_by_kind, moves_by, outcome_by}
 use Rattle.plan_search.specs.declared.PlanKind.{PlanKind}
 use Rattle.starts.specs.declared.PlanStart.{PlanStart}
 use Rattle.starts.specs.declared.PlanStart.TheVariants.{Given}
@@ -26,70 +26,70 @@ use Rattle.plan_search.proofs.KindLaws.{kind_keeps, kind_below}
 
 -- where a search begins, on an instance
 abbrev pub first_set : PlanKind → PlanStart → Instance → ℕ
-first_set kind start I = start_by start (cost_by_lem kind I) I.facilities
+first_set kind start I = start_by start (cost_by_kind kind I) I.facilities
 
 module _ (kind : PlanKind) (I : Instance) (limit : ℕ) where
   open I use {facilities as m}
 
-  pub outcome_not_dearer : (start : PlanStart) → cost_by_lem kind I (outcome_by kind start limit I).set ≤ cost_by_lem kind I (first_set kind start I)
+  pub outcome_not_dearer : (start : PlanStart) → cost_by_kind kind I (outcome_by kind start limit I).set ≤ cost_by_kind kind I (first_set kind start I)
   unfolding outcome_by
-  outcome_not_dearer start = omega (arith, within_never_dearer (cost_by_lem kind I) (moves_by kind m) limit (first_set kind start I))
+  outcome_not_dearer start = omega (arith, within_never_dearer (cost_by_kind kind I) (moves_by kind m) limit (first_set kind start I))
 
   pub outcome_settled : (start : PlanStart) → (outcome_by kind start limit I).stopped ≡ false
-      → NoLower (cost_by_lem kind I) (moves_by kind m (outcome_by kind start limit I).set) (outcome_by kind start limit I).set
+      → NoLower (cost_by_kind kind I) (moves_by kind m (outcome_by kind start limit I).set) (outcome_by kind start limit I).set
   unfolding outcome_by
-  outcome_settled start h = settled_no_lower (cost_by_lem kind I) (moves_by kind m) limit (first_set kind start I) h
+  outcome_settled start h = settled_no_lower (cost_by_kind kind I) (moves_by kind m) limit (first_set kind start I) h
 
   -- the set after so many moves; a search that settles earlier stays where it is
   pub outcome_after : (start : PlanStart)
-      → (outcome_by kind start limit I).set ≡ through limit (λ i. next (cost_by_lem kind I) (moves_by kind m)) (first_set kind start I)
+      → (outcome_by kind start limit I).set ≡ through limit (λ i. next (cost_by_kind kind I) (moves_by kind m)) (first_set kind start I)
   unfolding outcome_by
-  outcome_after start = within_after (cost_by_lem kind I) (moves_by kind m) limit (first_set kind start I)
+  outcome_after start = within_after (cost_by_kind kind I) (moves_by kind m) limit (first_set kind start I)
 
   -- stopped exactly where that many moves were made and another would lower the cost
   pub outcome_all : (start : PlanStart) → (outcome_by kind start limit I).stopped ≡ true → (outcome_by kind start limit I).steps ≡ limit
   unfolding outcome_by
-  outcome_all start h = stopped_steps (cost_by_lem kind I) (moves_by kind m) limit (first_set kind start I) h
+  outcome_all start h = stopped_steps (cost_by_kind kind I) (moves_by kind m) limit (first_set kind start I) h
 
   pub outcome_left : (start : PlanStart) → (outcome_by kind start limit I).stopped ≡ true
-      → (x : ℕ) × Among x (moves_by kind m (outcome_by kind start limit I).set) × (cost_by_lem kind I x < cost_by_lem kind I (outcome_by kind start limit I).set)
+      → (x : ℕ) × Among x (moves_by kind m (outcome_by kind start limit I).set) × (cost_by_kind kind I x < cost_by_kind kind I (outcome_by kind start limit I).set)
   unfolding outcome_by
-  outcome_left start h = stopped_lower (cost_by_lem kind I) (moves_by kind m) limit (first_set kind start I) h
+  outcome_left start h = stopped_lower (cost_by_kind kind I) (moves_by kind m) limit (first_set kind start I) h
 
   pub outcome_stops : (start : PlanStart) (x : ℕ) → Among x (moves_by kind m (outcome_by kind start limit I).set)
-      → cost_by_lem kind I x < cost_by_lem kind I (outcome_by kind start limit I).set → (outcome_by kind start limit I).stopped ≡ true
+      → cost_by_kind kind I x < cost_by_kind kind I (outcome_by kind start limit I).set → (outcome_by kind start limit I).stopped ≡ true
   unfolding outcome_by
-  outcome_stops start x among lower = stopped_when (cost_by_lem kind I) (moves_by kind m) limit (first_set kind start I) x among lower
+  outcome_stops start x among lower = stopped_where (cost_by_kind kind I) (moves_by kind m) limit (first_set kind start I) x among lower
 
   module _ (start : PlanStart) (some : 1 ≤ m) (passed : start_refusal start m ≡ 0) where
     pub outcome_keeps : ((outcome_by kind start limit I).set < 2 ^ m) × (any m (member (outcome_by kind start limit I).set) ≡ true)
     unfolding outcome_by
     outcome_keeps =
-        within_keeps (cost_by_lem kind I) (moves_by kind m) limit (first_set kind start I) (λ set. (set < 2 ^ m) × (any m (member set) ≡ true))
-        (kind_keeps kind m) (start_good m start (cost_by_lem kind I) some passed)
+        within_keeps (cost_by_kind kind I) (moves_by kind m) limit (first_set kind start I) (λ set. (set < 2 ^ m) × (any m (member set) ≡ true))
+        (kind_keeps kind m) (start_good m start (cost_by_kind kind I) some passed)
 
     pub outcome_steps : m ≤ most_yards → (outcome_by kind start limit I).steps < 2 ^ 32
     unfolding outcome_by
     outcome_steps few =
-        rw (within_steps (cost_by_lem kind I) (moves_by kind m) limit (first_set kind start I))
-        (lt_of_lt_of_le (descend_few (cost_by_lem kind I) (moves_by kind m) (2 ^ m) (kind_below kind m) limit (first_set kind start I)
-        (start_good m start (cost_by_lem kind I) some passed).0) (pow_mono few))
+        rw (within_steps (cost_by_kind kind I) (moves_by kind m) limit (first_set kind start I))
+        (lt_of_lt_of_le (descend_few (cost_by_kind kind I) (moves_by kind m) (2 ^ m) (kind_below kind m) limit (first_set kind start I)
+        (start_good m start (cost_by_kind kind I) some passed).0) (pow_mono few))
 
     -- with a limit that no search reaches it is the unbroken one
     pub outcome_unbroken : m ≤ most_yards → no_limit ≤ limit
         → outcome_by kind start limit I
         ≡ record {
           stopped = false;
-          set = (search (cost_by_lem kind I) (moves_by kind m) (first_set kind start I)).set;
-          steps = (search (cost_by_lem kind I) (moves_by kind m) (first_set kind start I)).steps;
+          set = (search (cost_by_kind kind I) (moves_by kind m) (first_set kind start I)).set;
+          steps = (search (cost_by_kind kind I) (moves_by kind m) (first_set kind start I)).steps;
         }
     unfolding outcome_by
     outcome_unbroken few high =
         let first = first_set kind start I in
         let enough : 2 ^ m ≤ suc limit = omega (arith, pow_mono few) in
-        let settles = never_stopped (cost_by_lem kind I) (moves_by kind m) (2 ^ m) (kind_below kind m) limit first
-        (start_good m start (cost_by_lem kind I) some passed).0 enough in
-        let is = settled_search (cost_by_lem kind I) (moves_by kind m) limit first settles in
+        let settles = never_stopped (cost_by_kind kind I) (moves_by kind m) (2 ^ m) (kind_below kind m) limit first
+        (start_good m start (cost_by_kind kind I) some passed).0 enough in
+        let is = settled_search (cost_by_kind kind I) (moves_by kind m) limit first settles in
         outcome_is _ settles is.0 is.1
       where
         outcome_is : (r : Outcome) {set steps : ℕ} → r.stopped ≡ false → r.set ≡ set → r.steps ≡ steps
@@ -124,6 +124,6 @@ module _ (kind : PlanKind) (I : Instance) (limit : ℕ) (start : PlanStart) (som
         ap (λ (r : Outcome). cut.steps + r.steps) rest ∙ on.1 ∙ sym (ap (λ (r : Outcome). r.steps) all),
       )
     where
-      cut_goes_on : ((search (cost_by_lem kind I) (moves_by kind m) cut.set).set ≡ (search (cost_by_lem kind I) (moves_by kind m) (first_set kind start I)).set)
-          × (cut.steps + (search (cost_by_lem kind I) (moves_by kind m) cut.set).steps ≡ (search (cost_by_lem kind I) (moves_by kind m) (first_set kind start I)).steps)
-      cut_goes_on = unfold outcome_by in goes_on (cost_by_lem kind I) (moves_by kind m) limit (first_set kind start I)
+      cut_goes_on : ((search (cost_by_kind kind I) (moves_by kind m) cut.set).set ≡ (search (cost_by_kind kind I) (moves_by kind m) (first_set kind start I)).set)
+          × (cut.steps + (search (cost_by_kind kind I) (moves_by kind m) cut.set).steps ≡ (search (cost_by_kind kind I) (moves_by kind m) (first_set kind start I)).steps)
+      cut_goes_on = unfold outcome_by in goes_on (cost_by_kind kind I) (moves_by kind m) limit (first_set kind start I)

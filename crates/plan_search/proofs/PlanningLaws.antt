@@ -18,7 +18,7 @@ use Rattle.plan_area.specs.Plan.{plan_bytes, question9, total_amount, writing}
 use Rattle.price.specs.Pricing.{area_after}
 use Rattle.price.proofs.PricingLaws.{writes_of}
 use Rattle.starts.specs.Starts.{start_refusal}
-use Rattle.plan_search.specs.Kinds.{cost_by_lem, total_by, outcome_by}
+use Rattle.plan_search.specs.Kinds.{cost_by_kind, total_by, outcome_by}
 use Rattle.plan_search.specs.Planning.{SearchPlan, search_plan, search_planning, told, searched_answer, search_answer, plan_left}
 use Rattle.plan_search.specs.Terms.{total_shown, outcome_of, plan_on}
 use Rattle.plan_search.specs.declared.PlanKind.{PlanKind}
@@ -44,7 +44,7 @@ as_outcome e r area next h = subst (λ o. (searched_answer r ≡ search_answer o
 
 -- the writer, given where a search ended, leaves the plan of its set
 module _ (kind : PlanKind) (s : List ℕ) (m n : ℕ) (e : reading s ≡ accepted (counts m n)) (end : End)
-    (costs : end.cost ≡ cost_by_lem kind (instance_by s m n) end.set) (total : Total) (shown : total ≡ total_shown kind end.cost) where
+    (costs : end.cost ≡ cost_by_kind kind (instance_by s m n) end.set) (total : Total) (shown : total ≡ total_shown kind end.cost) where
   total_is : total_amount total (total_cost (instance_by s m n) (member end.set)) ≡ total_by kind (instance_by s m n) end.set
   total_is =
       let same = instance_is (accepts s m n e).has in

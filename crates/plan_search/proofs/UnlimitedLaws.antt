@@ -15,7 +15,7 @@ use Rattle.plan_area.specs.Plan.{question9}
 use Rattle.price.specs.Pricing.{Plan, plan, question8}
 use Rattle.engine.specs.Bounds.{no_limit}
 use Rattle.starts.specs.Starts.{question7, ask_start, start_refusal}
-use Rattle.plan_search.specs.Kinds.{cost_by_lem, moves_by, total_by, outcome_by}
+use Rattle.plan_search.specs.Kinds.{cost_by_kind, moves_by, total_by, outcome_by}
 use Rattle.plan_search.specs.Planning.{SearchPlan, search_plan, search_planning, plan_left}
 use Rattle.plan_search.specs.declared.PlanKind.{PlanKind}
 use Rattle.starts.specs.declared.PlanStart.{PlanStart}
@@ -24,7 +24,7 @@ use Rattle.plan_search.proofs.OutcomeLaws.{first_set, outcome_unbroken}
 
 -- where the unbroken search ends, and the plan of its set
 abbrev pub unbroken : PlanKind → PlanStart → Instance → Reached
-unbroken kind start I = search (cost_by_lem kind I) (moves_by kind I.facilities) (first_set kind start I)
+unbroken kind start I = search (cost_by_kind kind I) (moves_by kind I.facilities) (first_set kind start I)
 
 abbrev pub unbroken_plan : PlanKind → PlanStart → List ℕ → Plan
 unbroken_plan kind start s =

@@ -10,9 +10,9 @@ use Rattle.plan_search.specs.declared.PlanKind.TheVariants.{Open, Limited}
 use Rattle.starts.specs.declared.PlanStart.{PlanStart}
 
 -- "Open plan, by full cost." "Limited plan, by haul cost; fees do not count."
-unfoldable pub cost_by_lem : PlanKind → Instance → ℕ → ℕ
-cost_by_lem Open I = open_cost I
-cost_by_lem Limited I = limited_cost I
+unfoldable pub cost_by_kind : PlanKind → Instance → ℕ → ℕ
+cost_by_kind Open I = open_cost I
+cost_by_kind Limited I = limited_cost I
 
 -- the sets that one move makes of a set of m facilities
 unfoldable pub moves_by : PlanKind → ℕ → ℕ → List ℕ
@@ -27,4 +27,4 @@ total_by Limited I = limited_cost I
 -- The search with at most `limit` moves: whether it was stopped, the set reached, the moves made.
 unfoldable pub outcome_by : PlanKind → PlanStart → ℕ → Instance → Outcome
 outcome_by kind start limit I =
-    search_within (cost_by_lem kind I) (moves_by kind I.facilities) limit (start_by start (cost_by_lem kind I) I.facilities)
+    search_within (cost_by_kind kind I) (moves_by kind I.facilities) limit (start_by start (cost_by_kind kind I) I.facilities)

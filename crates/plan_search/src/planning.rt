@@ -9,7 +9,7 @@ ghost use Rattle.plan_area.specs.Plan.{question9};
 ghost use Rattle.price.specs.Pricing.{area_after};
 ghost use Rattle.tables.specs.Tables.{table_cost, good_tables};
 ghost use Rattle.engine.specs.Moves.{neighbours_by};
-ghost use Rattle.plan_search.specs.Kinds.{cost_by_lem, outcome_by};
+ghost use Rattle.plan_search.specs.Kinds.{cost_by_kind, outcome_by};
 ghost use Rattle.plan_search.specs.Planning.{searched_answer, search_answer, plan_left};
 ghost use Rattle.starts.specs.Starts.{start_by, start_refusal};
 ghost use Rattle.plan_search.specs.Terms.{terms_of, total_shown, end_of, outcome_of, plan_on};
@@ -131,7 +131,7 @@ fn total_of(kind: PlanKind, cost: u64) -> Total
 
 // Writes the plan of the set that a search ended in; the moves are those made.
 fn write(kind: PlanKind, sheet: &[u8], m: usize, n: usize, end: End, area: &mut [u8]) -> Searched
-    requires { (reading sheet.now ≡ accepted (counts m n)) × (question9 m n (length area.old) ≡ true) × (end.cost ≡ cost_by_lem kind (instance_by sheet.now m n) end.set) × (end.moves < amount_end) }
+    requires { (reading sheet.now ≡ accepted (counts m n)) × (question9 m n (length area.old) ≡ true) × (end.cost ≡ cost_by_kind kind (instance_by sheet.now m n) end.set) × (end.moves < amount_end) }
     ensures answer { searched_answer result ≡ search_answer (plan_on kind sheet.now m n (outcome_of end)) }
     ensures area { area.new ≡ area_after (plan_left (plan_on kind sheet.now m n (outcome_of end))) area.old }
 {

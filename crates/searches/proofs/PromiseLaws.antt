@@ -7,7 +7,7 @@ use mathlib.Core.List.{List}
 use lib.ListN.{length}
 use Rattle.model.specs.Least.{any}
 use Rattle.model.specs.Sets.{count, member}
-use Rattle.model.specs.PlansWithin.{open_within_lem, limited_within_lem}
+use Rattle.model.specs.PlansWithin.{open_search_within, limited_search_within}
 use Rattle.model.specs.Answers.{Answer, accepted, after}
 use Rattle.model.proofs.CountLaws.{count_some}
 use Rattle.model.proofs.LeastLaws.{arg_least}
@@ -23,7 +23,7 @@ use Rattle.distances.proofs.CallLaws.{FormFirst}
 use Rattle.plan_area.proofs.PlanFarmLaws.{FarmsSent, farms_sent}
 use Rattle.price.specs.Pricing.{area_after}
 use Rattle.starts.specs.Starts.{start_by}
-use Rattle.plan_search.specs.Kinds.{cost_by_lem, moves_by, outcome_by}
+use Rattle.plan_search.specs.Kinds.{cost_by_kind, moves_by, outcome_by}
 use Rattle.plan_search.specs.Planning.{SearchPlan, search_plan, search_planning, searched_answer, search_answer, plan_left}
 use Rattle.plan_search.specs.declared.PlanKind.{PlanKind}
 use Rattle.plan_search.specs.declared.PlanKind.TheVariants.{Open, Limited}
@@ -46,7 +46,7 @@ module _ (kind : PlanKind) (start : PlanStart) (limit : ℕ) (s : List ℕ) (roo
 
   -- where it begins
   begins : (first_set kind start (instance_of s) < 2 ^ (instance_of s).facilities) × (any (instance_of s).facilities (member (first_set kind start (instance_of s))) ≡ true)
-  begins = start_good (instance_of s).facilities start (cost_by_lem kind (instance_of s)) within.some_facilities (passed_start passed)
+  begins = start_good (instance_of s).facilities start (cost_by_kind kind (instance_of s)) within.some_facilities (passed_start passed)
 
   -- from what holds of the outcome's set
   reached : (P : ℕ → Type 0) → P (outcome_by kind start limit (instance_of s)).set → P p.set
@@ -78,7 +78,7 @@ module _ (kind : PlanKind) (start : PlanStart) (limit : ℕ) (s : List ℕ) (roo
 
 module _ (start : PlanStart) (limit : ℕ) (s : List ℕ) (room : ℕ) (p : SearchPlan) where
   open_within : Passed Open start limit s room p → p.stopped ≡ false → BoundedByRivals s p.set
-  unfolding outcome_by open_within_lem cost_by_lem moves_by
+  unfolding outcome_by open_search_within cost_by_kind moves_by
   open_within passed stop = reached Open start limit s room p passed (BoundedByRivals s) bound
     where
       bound : BoundedByRivals s (outcome_by Open start limit (instance_of s)).set
@@ -99,14 +99,14 @@ module _ (start : PlanStart) (limit : ℕ) (s : List ℕ) (room : ℕ) (p : Sear
   module _ (k : ℕ) (passed : Passed Limited start limit s room p)
       (size : count (instance_of s).facilities (member (first_set Limited start (instance_of s))) ≡ k) where
     limited_size : OfSize s k p.set
-    unfolding outcome_by limited_within_lem cost_by_lem moves_by
+    unfolding outcome_by limited_search_within cost_by_kind moves_by
     limited_size =
         reached Limited start limit s room p passed (OfSize s k)
         (rw (← facilities_are s)
         (limited_within_keeps (instance_of s) k limit (first_set Limited start (instance_of s)) (begins Limited start limit s room p passed).0 size).1)
 
     limited_within : p.stopped ≡ false → BoundedByRivalsOf s k p.set
-    unfolding outcome_by limited_within_lem cost_by_lem moves_by
+    unfolding outcome_by limited_search_within cost_by_kind moves_by
     limited_within stop = reached Limited start limit s room p passed (BoundedByRivalsOf s k) bound
       where
         bound : BoundedByRivalsOf s k (outcome_by Limited start limit (instance_of s)).set

@@ -7,7 +7,7 @@ use Rattle.model.specs.Passing.{through}
 use Rattle.model.specs.Search.{Among, NoLower, next}
 use Rattle.questions.specs.Sheet.{yards, instance_of}
 use Rattle.starts.specs.Starts.{start_by}
-use Rattle.plan_search.specs.Kinds.{cost_by_lem, moves_by}
+use Rattle.plan_search.specs.Kinds.{cost_by_kind, moves_by}
 use Rattle.plan_search.specs.Planning.{OfSettled, OfStopped}
 use Rattle.plan_search.specs.declared.PlanKind.{PlanKind}
 use Rattle.starts.specs.declared.PlanStart.{PlanStart}
@@ -20,12 +20,12 @@ OfSearched r area P = OfSettled r area P × OfStopped r area P
 
 -- the set that a search of the sheet begins at
 abbrev pub beginning : PlanKind → PlanStart → List ℕ → ℕ
-beginning kind start s = start_by start (cost_by_lem kind (instance_of s)) (yards s)
+beginning kind start s = start_by start (cost_by_kind kind (instance_of s)) (yards s)
 
 -- ---- "no move left that lowers it" (demand 2), by the cost that the search goes by
 
 abbrev pub NoMoveBy : PlanKind → List ℕ → ℕ → Type 0
-NoMoveBy kind s set = NoLower (cost_by_lem kind (instance_of s)) (moves_by kind (yards s) set) set
+NoMoveBy kind s set = NoLower (cost_by_kind kind (instance_of s)) (moves_by kind (yards s) set) set
 
 abbrev pub SettledBy : PlanKind → List ℕ → Searched → List ℕ → Type 0
 SettledBy kind s r area = OfSettled r area (NoMoveBy kind s)
@@ -35,12 +35,12 @@ SettledBy kind s r area = OfSettled r area (NoMoveBy kind s)
 pub record MoveLeft (kind : PlanKind) (s : List ℕ) (set : ℕ) : Type 0 where
   pub move : ℕ
   pub among : Among move (moves_by kind (yards s) set)
-  pub lower : cost_by_lem kind (instance_of s) move < cost_by_lem kind (instance_of s) set
+  pub lower : cost_by_kind kind (instance_of s) move < cost_by_kind kind (instance_of s) set
 
 -- the set after so many moves of the search
 abbrev pub after_moves : PlanKind → PlanStart → ℕ → List ℕ → ℕ
 after_moves kind start limit s =
-    through limit (λ i. next (cost_by_lem kind (instance_of s)) (moves_by kind (yards s))) (beginning kind start s)
+    through limit (λ i. next (cost_by_kind kind (instance_of s)) (moves_by kind (yards s))) (beginning kind start s)
 
 pub record StoppedAfter (kind : PlanKind) (start : PlanStart) (limit : ℕ) (s : List ℕ) (set : ℕ) : Type 0 where
   pub after : set ≡ after_moves kind start limit s
@@ -52,7 +52,7 @@ StoppedBy kind start limit s r area = OfStopped r area (StoppedAfter kind start 
 -- ---- never dearer than the start, by that cost
 
 abbrev pub NoDearerThanStart : PlanKind → PlanStart → List ℕ → ℕ → Type 0
-NoDearerThanStart kind start s set = cost_by_lem kind (instance_of s) set ≤ cost_by_lem kind (instance_of s) (beginning kind start s)
+NoDearerThanStart kind start s set = cost_by_kind kind (instance_of s) set ≤ cost_by_kind kind (instance_of s) (beginning kind start s)
 
 abbrev pub NotDearerBy : PlanKind → PlanStart → List ℕ → Searched → List ℕ → Type 0
 NotDearerBy kind start s r area = OfSearched r area (NoDearerThanStart kind start s)

@@ -20,7 +20,7 @@ use Rattle.engine.specs.declared.Neighbourhood.{Neighbourhood}
 use Rattle.engine.specs.declared.Start.{Start}
 use Rattle.engine.specs.declared.Found.{Found}
 use Rattle.starts.specs.Starts.{start_by, start_refusal, engine_start}
-use Rattle.plan_search.specs.Kinds.{cost_by_lem, outcome_by}
+use Rattle.plan_search.specs.Kinds.{cost_by_kind, outcome_by}
 use Rattle.plan_search.specs.SheetTables.{Holds, most_factor, scaled_fee, scaled_haul}
 use Rattle.plan_search.specs.Terms.{terms_of, end_of, outcome_of}
 use Rattle.plan_search.specs.declared.PlanKind.{PlanKind}
@@ -97,14 +97,14 @@ module _ (kind : PlanKind) (start : PlanStart) (limit : ℕ) (s : List ℕ) (m n
   pub filled_good : m ≤ length opening → n * m ≤ length service → good_tables m n opening service ≡ true
   filled_good = tables_good s m n terms.fees terms.hauls (accepts s m n e) (factors_few kind terms by).0 (factors_few kind terms by).1 opening service fees_held hauls_held
 
-  costs_are : table_cost m n opening service ≡ cost_by_lem kind (instance_by s m n)
+  costs_are : table_cost m n opening service ≡ cost_by_kind kind (instance_by s m n)
   costs_are =
       fun_ext (λ set. table_cost_lem s m n terms.fees terms.hauls opening service fees_held hauls_held set
       ∙ rw by (sym (cost_terms kind (instance_by s m n) set)))
 
   module _ (r : End) (ended : r ≡ end_of (table_cost m n opening service) (search_within (table_cost m n opening service) (neighbours_by terms.moves m) limit
       (start_by start (table_cost m n opening service) m))) where
-    pub same_end : r ≡ end_of (cost_by_lem kind (instance_by s m n)) (outcome_by kind start limit (instance_by s m n))
+    pub same_end : r ≡ end_of (cost_by_kind kind (instance_by s m n)) (outcome_by kind start limit (instance_by s m n))
     unfolding outcome_by instance_by
     same_end =
         ended ∙ ap (λ (t : Terms). end_of (table_cost m n opening service) (search_within (table_cost m n opening service) (neighbours_by t.moves m) limit
@@ -115,9 +115,9 @@ module _ (kind : PlanKind) (start : PlanStart) (limit : ℕ) (s : List ℕ) (m n
     unfolding end_of
     end_outcome = ap outcome_of same_end
 
-    pub end_cost : r.cost ≡ cost_by_lem kind (instance_by s m n) r.set
+    pub end_cost : r.cost ≡ cost_by_kind kind (instance_by s m n) r.set
     unfolding end_of
-    end_cost = ap (λ (x : End). x.cost) same_end ∙ ap (cost_by_lem kind (instance_by s m n)) (sym (ap (λ (x : End). x.set) same_end))
+    end_cost = ap (λ (x : End). x.cost) same_end ∙ ap (cost_by_kind kind (instance_by s m n)) (sym (ap (λ (x : End). x.set) same_end))
 
     pub end_moves : r.moves < amount_end
     unfolding end_of instance_by
