@@ -6,6 +6,7 @@ ghost use Rattle.std.specs.Prelude.{◌≡◌, ◌<◌};
 ghost use Rattle.tariff.specs.Bands.{cost_before};
 ghost use Rattle.tariff.specs.House.{house};
 
+use std::io;
 use tariff::{HOUSE, HOUSE_BANDS};
 
 // What all the bands before band i cost.
@@ -13,27 +14,19 @@ fn cost_before(i: usize) -> u32
     requires { i < house.count }
     ensures { result ≡ cost_before house.band i }
 {
-    let mut cost: u32 = 0;
-    let mut j = 0;
-    while j < i {
-        cost += HOUSE[j].whole_charge();
-        j += 1;
-    }
-    cost
+    HOUSE[..i].iter().map(|band| band.whole_charge()).sum()
 }
 
 // Printing stops at the first write that fails.
-fn print_starts(rt: &impl Print) -> bool {
+fn print_starts(rt: &impl Print) -> io::Result<()> {
     for i in 0..HOUSE_BANDS {
-        if println!(rt; "{}", cost_before(i)).is_err() {
-            return false;
-        }
+        println!(rt; "{}", cost_before(i))?;
     }
-    true
+    Ok(())
 }
 
 fn main(rt: HostRuntime) {
-    if !print_starts(&rt) {
+    if print_starts(&rt).is_err() {
         let _told = eprintln!(rt; "band_starts: the table could not be written whole").is_ok();
     }
 }

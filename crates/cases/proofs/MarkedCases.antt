@@ -17,7 +17,8 @@ use Rattle.record.specs.Records.{record_at, amount_at, bytes_of}
 use Rattle.model.specs.Answers.{Answer, accepted, refused}
 use Rattle.questions.specs.Sheet.{is_yard, yards, hauls, farms, fee, haul, loads_byte, instance_of, instance_by}
 use Rattle.questions.specs.Questions.{question1, question2, well_formed, well_formed_at, question3, numbered, no_yard_after, question4, haul_in_place, farm_in_place, question10, haul_loaded, farm_loaded, question5, amount_within, question6}
-use Rattle.questions.specs.Reading.{Counts, counts, form, form_and_loads, reading}
+use Rattle.questions.specs.declared.Counts.{Counts}
+use Rattle.questions.specs.Reading.{counts, form, form_and_loads, reading}
 use Rattle.tariff.specs.Bands.{inside, charge, haul_by, last_end}
 use Rattle.tariff.specs.Questions.{band_of, band_at, tariff_length, in_place, band_in_place, question11, no_rise, question12}
 use Rattle.tariff.specs.Reading.{bands_of, tariff_reading}
@@ -25,7 +26,7 @@ use Rattle.tariff.proofs.BandBytes.{band_bytes}
 use Rattle.tariff.specs.declared.TariffChoice.{TariffChoice}
 use Rattle.tariff.specs.declared.TariffChoice.TheVariants.{NoTariff, HouseTariff, GivenTariff}
 use Rattle.distances.specs.Priced.{priced_record, priced_at, priced_sheet, question13, priced_by, under_given, sheet_by, reading_by}
-use Rattle.nearest.specs.declared.Nearest.{Nearest}
+use Rattle.nearest.specs.Nearest.{Nearest}
 use Rattle.nearest.specs.Nearest.{near}
 use Rattle.plan_area.specs.Plan.{open_record, farm_record, total_record, moves_record, plan_bytes, question9}
 use Rattle.price.specs.Pricing.{Plan, question8, pricing}

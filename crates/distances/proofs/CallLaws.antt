@@ -7,10 +7,14 @@ use mathlib.Core.List.{List}
 use borrow.Author.Tests.{le-leb, lt-leb}
 use lib.ListN.{length, take}
 use lib.Seq.{length-take-le}
+use Rattle.std.specs.Prelude.{Result, Ok, Err}
 use Rattle.model.specs.Answers.{Answer, accepted, refused, ask, after}
 use Rattle.model.proofs.AnswerLaws.{same_result, not_both, passed_first}
+use Rattle.refusal.specs.declared.Refusal.{Refusal}
+use Rattle.refusal.specs.Numbers.{number_of}
 use Rattle.questions.specs.Bounds.{most_bytes}
-use Rattle.questions.specs.Reading.{Counts, form_and_loads, reading}
+use Rattle.questions.specs.declared.Counts.{Counts}
+use Rattle.questions.specs.Reading.{form_and_loads, reading}
 use Rattle.questions.proofs.ReadingLaws.{reading_loads, refused_by}
 use Rattle.tariff.specs.declared.TariffChoice.{TariffChoice}
 use Rattle.tariff.specs.declared.TariffChoice.TheVariants.{NoTariff, HouseTariff, GivenTariff}
@@ -19,9 +23,9 @@ use Rattle.tariff.specs.Questions.{question11, question12}
 use Rattle.tariff.specs.Reading.{bands_of, tariff_reading}
 use Rattle.tariff.specs.House.{house}
 use Rattle.distances.specs.Priced.{priced_sheet, question13, priced_by, under_tariff, under_given, sheet_by, reading_by, OnHauls}
-use Rattle.distances.specs.Lent.{formed, sheet_told, hauls_within, FitsIn}
+use Rattle.distances.specs.Lent.{formed, sheet_within, sheet_told, hauls_within, FitsIn}
 use Rattle.distances.specs.declared.priced.HaulSheet.{HaulSheet}
-use Rattle.distances.specs.declared.priced.HaulSheet.TheVariants.{AsWritten, Priced, Refused}
+use Rattle.distances.specs.declared.priced.HaulSheet.TheVariants.{AsWritten, Priced}
 
 -- the call asks questions 1 to 4 and 10 first
 abbrev pub FormFirst : {A : Type 0} → (List ℕ → Answer A) → Type 0
@@ -49,41 +53,28 @@ module _ (choice : TariffChoice) (tariff s : List ℕ) (room : ℕ) where
   unfolding hauls_within
   short_room short = ap (λ b. ask b 0 (sheet_by choice tariff s)) (lt-leb most_bytes room short)
 
--- the part of the bytes lent that a priced sheet is: it lies within them, of which there are `size`, and is as long as told
-module _ (room size : ℕ) (long : size ≡ room) (bytes : ℕ) (r : HaulSheet) (e : r ≡ Priced bytes) (fits : FitsIn room r) where
-  pub part_within : bytes ≤ size
-  part_within = omega (arith, subst (FitsIn room) e fits)
-
-  pub part_length : (lent : List ℕ) → length lent ≡ size → bytes ≡ length (take bytes lent)
-  part_length lent all = sym (length-take-le bytes lent (omega (arith, part_within)))
-
 -- of the sheet that the answer r tells, in bytes lent that hold every sheet
-module _ (choice : TariffChoice) (tariff s : List ℕ) (room : ℕ) (enough : most_bytes ≤ room) (r : HaulSheet) (lent : List ℕ)
+module _ (choice : TariffChoice) (tariff s : List ℕ) (room : ℕ) (enough : most_bytes ≤ room) (r : Result HaulSheet Refusal) (lent : List ℕ)
     (told : sheet_told r s lent ≡ hauls_within room choice tariff s) where
-  sheet_is : sheet_told r s lent ≡ sheet_by choice tariff s
-  sheet_is = told ∙ enough_room choice tariff s room enough
+  sheet_is : (q : Result HaulSheet Refusal) → r ≡ q → sheet_told q s lent ≡ sheet_by choice tariff s
+  sheet_is q e = sym (ap (λ q. sheet_told q s lent) e) ∙ told ∙ enough_room choice tariff s room enough
 
   module _ {A : Type 0} (call : List ℕ → Answer A) where
-    pub as_written : r ≡ AsWritten → call s ≡ after (sheet_by choice tariff s) call
-    as_written e = ap (λ a. after a call) (sym (ap (λ q. sheet_told q s lent) e) ∙ sheet_is)
+    pub as_told : FormFirst call → (h : HaulSheet) → r ≡ Ok h → call (sheet_within h s lent) ≡ after (sheet_by choice tariff s) call
+    as_told first AsWritten e = ap (λ a. after a call) (sheet_is (Ok AsWritten) e)
+    as_told first (Priced bytes) e = formed_call call first (take bytes lent) ∙ ap (λ a. after a call) (sheet_is (Ok (Priced bytes)) e)
 
-    pub as_priced : FormFirst call → (bytes : ℕ) → r ≡ Priced bytes → call (take bytes lent) ≡ after (sheet_by choice tariff s) call
-    as_priced first bytes e =
-        formed_call call first (take bytes lent) ∙ ap (λ a. after a call) (sym (ap (λ q. sheet_told q s lent) e) ∙ sheet_is)
-
-    pub as_refused : (k : ℕ) → r ≡ Refused k → refused k ≡ after (sheet_by choice tariff s) call
-    as_refused k e = ap (λ a. after a call) (sym (ap (λ q. sheet_told q s lent) e) ∙ sheet_is)
+    pub as_refused : (refusal : Refusal) → r ≡ Err refusal → refused (number_of refusal) ≡ after (sheet_by choice tariff s) call
+    as_refused refusal e = ap (λ a. after a call) (sheet_is (Err refusal) e)
 
   -- what holds of that sheet holds of the sheet of hauls
   module _ (P : List ℕ → Type 0) where
-    pub on_written : r ≡ AsWritten → P s → OnHauls (sheet_by choice tariff s) P
-    on_written e p h is = subst P (same_result (sym (ap (λ q. sheet_told q s lent) e) ∙ sheet_is ∙ is)) p
+    pub on_told : (h : HaulSheet) → r ≡ Ok h → P (sheet_within h s lent) → OnHauls (sheet_by choice tariff s) P
+    on_told AsWritten e p h is = subst P (same_result (sheet_is (Ok AsWritten) e ∙ is)) p
+    on_told (Priced bytes) e p h is = subst P (formed_same (take bytes lent) h (sheet_is (Ok (Priced bytes)) e ∙ is)) p
 
-    pub on_priced : (bytes : ℕ) → r ≡ Priced bytes → P (take bytes lent) → OnHauls (sheet_by choice tariff s) P
-    on_priced bytes e p h is = subst P (formed_same (take bytes lent) h (sym (ap (λ q. sheet_told q s lent) e) ∙ sheet_is ∙ is)) p
-
-    pub on_refused : (k : ℕ) → r ≡ Refused k → OnHauls (sheet_by choice tariff s) P
-    on_refused k e h is = absurd (not_both (sym is ∙ sym sheet_is ∙ ap (λ q. sheet_told q s lent) e))
+    pub on_refused : (refusal : Refusal) → r ≡ Err refusal → OnHauls (sheet_by choice tariff s) P
+    on_refused refusal e h is = absurd (not_both (sym is ∙ sym (sheet_is (Err refusal) e)))
 
 -- ---- reading
 

@@ -22,7 +22,8 @@ use Rattle.record.proofs.RecordLaws.{Bytes, amount_small}
 use Rattle.questions.specs.Bounds.{haul_kind}
 use Rattle.questions.specs.Sheet.{yards, hauls, place, fee, haul, loads_byte, instance_by}
 use Rattle.questions.specs.Questions.{amount_within}
-use Rattle.questions.specs.Reading.{Counts, form_and_loads}
+use Rattle.questions.specs.declared.Counts.{Counts}
+use Rattle.questions.specs.Reading.{form_and_loads}
 use Rattle.questions.proofs.FormLaws.{hauls_are}
 use Rattle.questions.proofs.AcceptedLaws.{HasForm, has_form}
 use Rattle.questions.proofs.ReadingLaws.{loaded}

@@ -20,7 +20,8 @@ use Rattle.record.proofs.RecordLaws.{Bytes, amount_small}
 use Rattle.questions.specs.Bounds.{yard_kind, haul_kind, most_bytes}
 use Rattle.questions.specs.Sheet.{is_yard, yards, hauls}
 use Rattle.questions.specs.Questions.{question1, amount_within}
-use Rattle.questions.specs.Reading.{Counts, counts, form_and_loads}
+use Rattle.questions.specs.declared.Counts.{Counts}
+use Rattle.questions.specs.Reading.{counts, form_and_loads}
 use Rattle.questions.proofs.FormLaws.{yards_le, hauls_are, well_formed_lem, no_yard_after_lem}
 use Rattle.questions.proofs.QuestionLaws.{length_said}
 use Rattle.questions.proofs.ReadingLaws.{Formed, formed, loaded, form_1, loads_form}

@@ -8,7 +8,8 @@ use Rattle.record.specs.Records.{records, record_of, record_at, bytes_of}
 use Rattle.questions.specs.Bounds.{haul_kind}
 use Rattle.questions.specs.Sheet.{yards, hauls}
 use Rattle.questions.specs.Questions.{amount_within}
-use Rattle.questions.specs.Reading.{Counts, form_and_loads, reading}
+use Rattle.questions.specs.declared.Counts.{Counts}
+use Rattle.questions.specs.Reading.{form_and_loads, reading}
 use Rattle.tariff.specs.Bands.{Bands, haul_by, last_end}
 use Rattle.tariff.specs.House.{house}
 use Rattle.tariff.specs.Reading.{tariff_reading}

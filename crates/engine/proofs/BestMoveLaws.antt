@@ -9,14 +9,13 @@ use mathlib.Core.Bool.{true, false}
 use mathlib.Core.List.{List, ◌++◌}
 use borrow.Author.Tests.{lt-ltb, le-ltb, lt-leb, le-leb, leb-true}
 use lib.Dec.{leb, ltb}
-use lib.ListN.{get_or}
+use lib.ListN.{length, get_or}
 use Rattle.model.specs.Loops.{on}
 use Rattle.model.specs.Passing.{through}
 use Rattle.model.specs.Sets.{count, member, with, without}
 use Rattle.model.specs.Neighbours.{add_at, adds, drop_at, drops, swap_at, swaps_out, swaps, add_drop_swap}
 use Rattle.model.specs.Search.{best, next}
 use Rattle.model.proofs.Bools.{cases}
-use Rattle.model.proofs.SumLaws.{sum_none, sum_more}
 use Rattle.model.proofs.CountLaws.{count_missing}
 use Rattle.model.proofs.PassingLaws.{through_more, through_keeps, through_holds}
 use Rattle.sets.specs.Within.{with32}
@@ -25,7 +24,7 @@ use Rattle.tables.specs.Tables.{table_cost}
 use Rattle.engine.specs.Bounds.{most_cost, top_bit, loss_from, more_from}
 use Rattle.engine.specs.Rows.{dear_at}
 use Rattle.engine.specs.Near.{Listed}
-use Rattle.engine.specs.Moves.{MovePrices, cheaper, at_place, try_add, add_at_cost, best_add, try_drop, best_drop, swap_at_cost, best_swap_out, swap_out, best_swap, best_move, listed_openings, priced, neighbours_by}
+use Rattle.engine.specs.Moves.{MovePrices, cheaper, at_place, try_add, add_at_cost, best_add, try_drop, best_drop, swap_at_cost, best_swap_out, swap_out, best_swap, best_move, priced, neighbours_by}
 use Rattle.engine.specs.declared.moves.Priced.{Priced}
 use Rattle.engine.specs.declared.Neighbourhood.{Neighbourhood}
 use Rattle.engine.specs.declared.Neighbourhood.TheVariants.{AddDropSwap, Swap}
@@ -64,12 +63,12 @@ add_falls m set costs top b low =
     through_holds (λ x. x.cost ≤ top) (add_at_cost set costs) b m
     (λ i l x h. cases (member set i) (λ e. rw e h) (λ e. rw e (cheaper_falls (with32 set i) (get_or costs i 0) top x h))) low
 
-drop_falls : (opening : List ℕ) (set cost : ℕ) (kept list : List ℕ) (places top : ℕ) (b : Priced) → b.cost ≤ top
-    → (best_drop opening set cost kept list places b).cost ≤ top
+drop_falls : (opening : List ℕ) (set cost : ℕ) (kept list : List ℕ) (top : ℕ) (b : Priced) → b.cost ≤ top
+    → (best_drop opening set cost kept list b).cost ≤ top
 unfolding best_drop try_drop
-drop_falls opening set cost kept list places top b low =
-    cases (ltb places 2) (λ e. rw e low)
-    (λ e. rw e (through_holds (λ x. x.cost ≤ top) (at_place list (try_drop opening set cost kept)) b places
+drop_falls opening set cost kept list top b low =
+    cases (ltb (length list) 2) (λ e. rw e low)
+    (λ e. rw e (through_holds (λ x. x.cost ≤ top) (at_place list (try_drop opening set cost kept)) b (length list)
     (λ t l x h. cheaper_falls _ _ top x h) low))
 
 swap_falls : (m set : ℕ) (costs kept : List ℕ) (o saved top : ℕ) (b : Priced) → b.cost ≤ top
@@ -83,11 +82,11 @@ pub out_falls : (m set : ℕ) (costs kept : List ℕ) (o saved top : ℕ) (b r :
     → r ≡ best_swap_out m set costs kept o saved b → r.cost ≤ top
 out_falls m set costs kept o saved top b r low e = rw e (swap_falls m set costs kept o saved top b low)
 
-pub both_fall : (opening : List ℕ) (m set cost : ℕ) (costs kept list : List ℕ) (places : ℕ) (b added dropped : Priced)
-    → b.cost ≤ most_cost → added ≡ best_add m set costs b → dropped ≡ best_drop opening set cost kept list places added
+pub both_fall : (opening : List ℕ) (m set cost : ℕ) (costs kept list : List ℕ) (b added dropped : Priced)
+    → b.cost ≤ most_cost → added ≡ best_add m set costs b → dropped ≡ best_drop opening set cost kept list added
     → dropped.cost ≤ most_cost
-both_fall opening m set cost costs kept list places b added dropped low a d =
-    rw d (drop_falls opening set cost kept list places most_cost added (rw a (add_falls m set costs most_cost b low)))
+both_fall opening m set cost costs kept list b added dropped low a d =
+    rw d (drop_falls opening set cost kept list most_cost added (rw a (add_falls m set costs most_cost b low)))
 
 -- ---- a row of swaps with no price below the best so far
 
@@ -153,37 +152,25 @@ rows_more opening m set costs kept list start b r t e h =
 
 -- the loops in a row, for each kind of moves
 
-module _ (moves : Neighbourhood) (opening : List ℕ) (m : ℕ) (costs kept list : List ℕ) (places : ℕ) (b : Priced) where
+module _ (moves : Neighbourhood) (opening : List ℕ) (m : ℕ) (costs kept list : List ℕ) (b : Priced) where
   pub taken_all : (added dropped r : Priced) → moves ≡ AddDropSwap → added ≡ best_add m b.set costs b
-      → dropped ≡ best_drop opening b.set b.cost kept list places added
-      → r ≡ best_swap opening m b.set costs kept list places dropped → r ≡ best_move moves opening m costs kept list places b
+      → dropped ≡ best_drop opening b.set b.cost kept list added
+      → r ≡ best_swap opening m b.set costs kept list dropped → r ≡ best_move moves opening m costs kept list b
   unfolding best_move
   taken_all added dropped r e a d s =
-      rw e (s ∙ ap (best_swap opening m b.set costs kept list places)
-      (d ∙ ap (best_drop opening b.set b.cost kept list places) a))
+      rw e (s ∙ ap (best_swap opening m b.set costs kept list)
+      (d ∙ ap (best_drop opening b.set b.cost kept list) a))
 
-  pub taken_swap : (r : Priced) → moves ≡ Swap → r ≡ best_swap opening m b.set costs kept list places b
-      → r ≡ best_move moves opening m costs kept list places b
+  pub taken_swap : (r : Priced) → moves ≡ Swap → r ≡ best_swap opening m b.set costs kept list b
+      → r ≡ best_move moves opening m costs kept list b
   unfolding best_move
   taken_swap r e s = rw e s
-
--- the opening costs of the listed facilities
-
-pub openings_none : (opening list : List ℕ) → 0 ≡ listed_openings opening list 0
-unfolding listed_openings
-openings_none opening list = sum_none (λ t. get_or opening (get_or list t 0) 0)
-
-pub openings_more : (opening list : List ℕ) (total t : ℕ) → total ≡ listed_openings opening list t
-    → total + get_or opening (get_or list t 0) 0 ≡ listed_openings opening list (t + 1)
-unfolding listed_openings
-openings_more opening list total t e =
-    ap (λ (x : ℕ). x + get_or opening (get_or list t 0) 0) e ∙ sym (sum_more (λ k. get_or opening (get_or list k 0) 0) t)
 
 -- ---- what the prices say
 
 module _ (m n : ℕ) (opening service : List ℕ) (set : ℕ) (costs kept : List ℕ)
     (given : MovePrices m n opening service set costs kept)
-    (list : List ℕ) (places : ℕ) (listed : Listed set list places) (narrow : set < 2 ^ m) where
+    (list : List ℕ) (listed : Listed set list) (narrow : set < 2 ^ m) where
   abbrev cost : ℕ → ℕ
   cost = table_cost m n opening service
 
@@ -215,16 +202,16 @@ module _ (m n : ℕ) (opening service : List ℕ) (set : ℕ) (costs kept : List
       (λ e. rw e right)
 
   drops_are : (x : Priced) → Right x
-      → best_drop opening set (cost set) kept list places x ≡ priced cost (best cost x.set (drops m set))
+      → best_drop opening set (cost set) kept list x ≡ priced cost (best cost x.set (drops m set))
   unfolding best_drop drops best
   drops_are x right =
-      let as_many = places_count set m list places listed few narrow in
-      elim (dec_lt places 2) [
-        | yes l ↦ rw (lt-ltb places 2 l, lt-leb 2 (count m (member set)) (omega arith)) right
+      let as_many = places_count set m list listed few narrow in
+      elim (dec_lt (length list) 2) [
+        | yes l ↦ rw (lt-ltb (length list) 2 l, lt-leb 2 (count m (member set)) (omega arith)) right
         | no g ↦
             let two : 2 ≤ count m (member set) = omega arith in
-            rw (le-ltb places 2 (omega arith), le-leb 2 (count m (member set)) two)
-            (through_listed set m list places listed few narrow (try_drop opening set (cost set) kept) x
+            rw (le-ltb (length list) 2 (omega arith), le-leb 2 (count m (member set)) two)
+            (through_listed set m list listed few narrow (try_drop opening set (cost set) kept) x
             ∙ through_best cost (in_set set (try_drop opening set (cost set) kept)) (drop_at set) x right m (drop_is two))
       ]
 
@@ -246,30 +233,30 @@ module _ (m n : ℕ) (opening service : List ℕ) (set : ℕ) (costs kept : List
       (λ e. rw e right)
 
   swaps_are : (x : Priced) → Right x
-      → best_swap opening m set costs kept list places x ≡ priced cost (best cost x.set (swaps m set))
+      → best_swap opening m set costs kept list x ≡ priced cost (best cost x.set (swaps m set))
   unfolding best_swap swaps
   swaps_are x right =
-      through_listed set m list places listed few narrow (swap_out opening m set costs kept) x
+      through_listed set m list listed few narrow (swap_out opening m set costs kept) x
       ∙ through_best cost (in_set set (swap_out opening m set costs kept)) (swaps_out m set) x right m swaps_out_are
 
 -- all moves of a kind
 module _ (m n : ℕ) (opening service : List ℕ) (b : Priced) (costs kept : List ℕ)
     (given : MovePrices m n opening service b.set costs kept)
-    (list : List ℕ) (places : ℕ) (listed : Listed b.set list places) (narrow : b.set < 2 ^ m)
+    (list : List ℕ) (listed : Listed b.set list) (narrow : b.set < 2 ^ m)
     (right : b ≡ priced (table_cost m n opening service) b.set) where
   pub moves_are : (moves : Neighbourhood)
-      → best_move moves opening m costs kept list places b
+      → best_move moves opening m costs kept list b
       ≡ priced (table_cost m n opening service) (next (table_cost m n opening service) (neighbours_by moves m) b.set)
   unfolding best_move next neighbours_by add_drop_swap
   moves_are AddDropSwap =
       let cost = table_cost m n opening service in
       let set = b.set in
       let added = best_add m set costs b in
-      let dropped = best_drop opening set b.cost kept list places added in
-      let a = adds_are m n opening service set costs kept given list places listed narrow b right in
-      let d = ap (λ (k : ℕ). best_drop opening set k kept list places added) (cost_of cost b set right)
-      ∙ drops_are m n opening service set costs kept given list places listed narrow added (right_of cost added _ a) in
-      let s = swaps_are m n opening service set costs kept given list places listed narrow dropped (right_of cost dropped _ d) in
+      let dropped = best_drop opening set b.cost kept list added in
+      let a = adds_are m n opening service set costs kept given list listed narrow b right in
+      let d = ap (λ (k : ℕ). best_drop opening set k kept list added) (cost_of cost b set right)
+      ∙ drops_are m n opening service set costs kept given list listed narrow added (right_of cost added _ a) in
+      let s = swaps_are m n opening service set costs kept given list listed narrow dropped (right_of cost dropped _ d) in
       best_then cost set (adds m set ++ drops m set) (swaps m set) dropped _
       (best_then cost set (adds m set) (drops m set) added dropped a d) s
-  moves_are Swap = swaps_are m n opening service b.set costs kept given list places listed narrow b right
+  moves_are Swap = swaps_are m n opening service b.set costs kept given list listed narrow b right

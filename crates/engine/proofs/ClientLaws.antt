@@ -9,10 +9,8 @@ use borrow.Author.Tests.{ne_eqb}
 use Rattle.model.specs.Sets.{member, plus}
 use Rattle.model.specs.TwoLeast.{Two, insert}
 use Rattle.model.proofs.LoopLaws.{up_to}
-use Rattle.sets.specs.declared.Members.{Members}
-use Rattle.sets.specs.Members.{members_of}
 use Rattle.tables.specs.Bounds.{most_clients}
-use Rattle.engine.specs.Near.{InOrder, near_two, two_of, near_of, Moved, arrival_at, goes_to, Listed}
+use Rattle.engine.specs.Near.{InOrder, near_two, two_of, near_of, Moved, arrival_at, goes_to}
 use Rattle.engine.specs.Sums.{first_at, second_at, NearAt, Uncounted, NearUpTo, NearFrom, Others, PutAt}
 use Rattle.engine.specs.declared.near.Near.{Near}
 use Rattle.engine.proofs.NearLaws.{near_stays, near_with, near_in_order}
@@ -69,10 +67,6 @@ none_moved m n service kept set next h = record { moved = λ k l. absurd (not-su
 pub none_begun : (m n : ℕ) (service kept : List ℕ) (set : ℕ) → ((j : ℕ) → j < n → Uncounted kept j)
     → NearUpTo m n service kept set 0
 none_begun m n service kept set h = record { begun = λ k l. absurd (not-suc-le-zero l); waiting = λ k l below. h k below }
-
--- what `sets::members_of` answers
-pub listed_is : (set : ℕ) (r : Members) → r ≡ members_of set → Listed set r.list r.count
-listed_is set r e = record { list_is = ap (λ (r : Members). r.list) e; count_is = ap (λ (r : Members). r.count) e }
 
 -- the two places of a client are its two nearest
 pub near_is : (m : ℕ) (service kept : List ℕ) (set j : ℕ) → NearAt m service kept set j

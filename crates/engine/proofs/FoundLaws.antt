@@ -20,6 +20,7 @@ use Rattle.tables.specs.Tables.{tabled, table_cost, good_tables}
 use Rattle.tables.proofs.LentTableLaws.{good_when}
 use Rattle.engine.specs.Bounds.{no_limit}
 use Rattle.engine.specs.Moves.{neighbours_by}
+use Rattle.std.specs.Prelude.{Some}
 use Rattle.engine.specs.SearchOnTables.{good_start, start_set, found, searching}
 use Rattle.engine.specs.declared.Neighbourhood.{Neighbourhood}
 use Rattle.engine.specs.declared.Neighbourhood.TheVariants.{AddDropSwap, Swap}
@@ -60,8 +61,8 @@ module _ (moves : Neighbourhood) (start : Start) (limit : ℕ) (opening service 
 
   pub unbroken : no_limit ≤ limit
       → searching moves start limit opening service m n
-      ≡ Settled (search cost (neighbours_by moves m) first).set (cost (search cost (neighbours_by moves m) first).set)
-      (search cost (neighbours_by moves m) first).steps
+      ≡ Some (Settled (search cost (neighbours_by moves m) first).set (cost (search cost (neighbours_by moves m) first).set)
+      (search cost (neighbours_by moves m) first).steps)
   unfolding searching found
   unbroken high =
       let good = good_when m n opening service tables in

@@ -6,7 +6,8 @@ use mathlib.Core.Path.{◌≡◌, refl, sym, ap, fun_ext, ◌∙◌}
 use mathlib.Core.Bool.{Bool, true, false, cond}
 use mathlib.Core.List.{List}
 use lib.Dec.{eqb}
-use lib.ListN.{length, get_or}
+use lib.ListN.{length, get_or, take}
+use lib.Seq.{get_or-take, length-take-le}
 use Rattle.model.specs.Loops.{on, sum}
 use Rattle.model.specs.Least.{any}
 use Rattle.model.specs.Sets.{count, member, plus, minus, trade, with, without}
@@ -19,16 +20,24 @@ use Rattle.model.proofs.CountLaws.{count_minus}
 use Rattle.model.proofs.LeastLaws.{any_counted}
 use Rattle.model.proofs.CostLaws.{opening_plus, opening_minus, opening_trade}
 use Rattle.model.proofs.NearestChangeLaws.{nearest_two, nearest_first, nearest_with, nearest_without, nearest_trade}
-use Rattle.tables.specs.Bounds.{most_entry, most_opening}
+use Rattle.tables.specs.Bounds.{most_clients, most_entry, most_opening}
 use Rattle.tables.specs.Tables.{tabled, table_cost}
 use Rattle.tables.proofs.LentTableLaws.{service_sum}
-use Rattle.engine.specs.Bounds.{most_served, most_opened, most_cost, added_from, loss_from, more_from}
+use Rattle.engine.specs.Bounds.{no_facility, most_served, most_opened, most_cost, added_from, loss_from, more_from}
 use Rattle.engine.specs.Tables.{Openings}
 use Rattle.engine.specs.Rows.{entry, Adding, Added}
 use Rattle.engine.specs.Near.{near_two}
-use Rattle.engine.specs.Sums.{first_at, second_at, added_sum, more_sum, loss_sum, KeptOf, Costs}
+use Rattle.engine.specs.Sums.{FirstsWithin, first_at, second_at, added_sum, more_sum, loss_sum, KeptOf, Costs}
 use Rattle.engine.specs.Moves.{MovePrices}
 use Rattle.engine.proofs.ClientSumLaws.{kept_small}
+
+-- ---- the nearest facilities of all clients
+
+pub firsts_within : (n : ℕ) (kept : List ℕ) → n ≤ most_clients → n ≤ length kept → ((j : ℕ) → j < n → first_at kept j ≤ no_facility)
+    → (length (take n kept) ≤ most_clients) × FirstsWithin (take n kept)
+firsts_within n kept few room within =
+    let size = length-take-le n kept room in
+    (omega (arith, size), λ j l. let below : j < n = omega (arith, size) in rw (get_or-take n kept j 0 below) (within j below))
 
 -- ---- one client
 
@@ -148,9 +157,12 @@ module _ (m n : ℕ) (opening service : List ℕ) (set : ℕ) (kept : List ℕ)
   cost_by x T agree = ap (λ (R : ℕ → Bool). opening_cost I R + service_cost I R) (fun_ext agree)
 
   -- the cost of the set itself
-  pub cost_now : (opened served : ℕ) → opened ≡ opening_cost I S → served ≡ sum n (λ j. first_at kept j / 32)
+  pub cost_now : (opened served : ℕ) → opened ≡ opening_cost I S → served ≡ sum (length (take n kept)) (λ j. get_or (take n kept) j 0 / 32)
       → opened + served ≡ table_cost m n opening service set
-  cost_now opened served f s = omega (arith, served_now, cost_by set S (λ k. refl))
+  cost_now opened served f s =
+      let size : length (take n kept) ≡ n = length-take-le n kept (omega (arith, here.sums.room, here.sums.rows.few_clients)) in
+      let same = sum_cong n (λ j l. ap (λ (x : ℕ). x / 32) (get_or-take n kept j 0 l)) in
+      omega (arith, rw size at s, same, served_now, cost_by set S (λ k. refl))
 
   below_32 : {i : ℕ} → i < m → i < 32
   below_32 l = omega (arith, here.sums.rows.few_facilities)

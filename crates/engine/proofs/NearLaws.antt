@@ -2,7 +2,6 @@
 -- A facility that came is inserted; one that went leaves no trace where neither of the two names it, else the other of the two is the
 -- nearest, and the second is the least along the list other than that one.
 use Prim.Native.Nat.{ℕ, ◌+◌, ◌*◌, ◌%◌, ◌^◌, ◌≤◌, ◌<◌, min}
-use native.Mathlib.Nat.{le_refl}
 use native.Mathlib.Omega.{arith}
 use native.Mathlib.Decide.{dec_lt}
 use mathlib.Core.Path.{◌≡◌, refl, sym, ap, ◌∙◌}
@@ -19,11 +18,10 @@ use Rattle.model.proofs.SetLaws.{member_below}
 use Rattle.model.proofs.TwoLeastLaws.{two_none, two_take, two_skip, two_cong, two_ordered, two_below, two_with, first_with, first_attained}
 use Rattle.model.proofs.PackedLaws.{packed_facility, packed_without, packed_first_without, other_than, packed_second}
 use Rattle.model.proofs.PlaceLaws.{row_within, few_places}
-use Rattle.sets.specs.Members.{members_of}
-use Rattle.sets.proofs.MemberLaws.{passed, passed_none, passed_more, Next, Last, member_at, none_after, count_few, list_length}
+use Rattle.sets.proofs.MemberLaws.{passed, passed_none, passed_more, Next, listed_last}
 use Rattle.engine.specs.Bounds.{no_facility}
 use Rattle.engine.specs.Rows.{entry, Rows}
-use Rattle.engine.specs.Near.{near_two, two_of, near_of, InOrder, Moved, arrival_at, goes_to}
+use Rattle.engine.specs.Near.{near_two, two_of, near_of, InOrder, Moved, arrival_at, goes_to, Listed}
 use Rattle.engine.specs.declared.near.Near.{Near}
 
 -- ---- x, which counts as missing where it is the first
@@ -46,19 +44,6 @@ module _ (m n : ℕ) (service : List ℕ) (rows : Rows m n service) (j i : ℕ) 
   pub entry_early : j * m + i < 4096
   entry_early = omega (arith, row_within m n j client, few_places m n rows.few_facilities rows.few_clients)
 
--- ---- the facilities of a set, as they are listed
-
-module _ (set : ℕ) (list : List ℕ) (count : ℕ) (list_is : list ≡ (members_of set).list) (count_is : count ≡ (members_of set).count) where
-  -- the number at place t is the next facility of the set
-  pub place : (t : ℕ) → t < count → Next set 32 (passed list t) (get_or list t 0)
-  place t l = rw list_is (member_at set 32 (le_refl 32) t (rw count_is at l))
-
-  pub place_room : (t : ℕ) → t < count → t < length list
-  place_room t l = omega (arith, ap length list_is, list_length set 32 (le_refl 32), count_is, count_few set 32 (le_refl 32))
-
-  last : Last set 32 (passed list count)
-  last = rw (list_is, count_is) (none_after set 32 (le_refl 32))
-
 module _ (m : ℕ) (service : List ℕ) (set j : ℕ) where
   -- client j's two nearest of the facilities below p
   abbrev pub near_below : ℕ → Two
@@ -78,15 +63,15 @@ module _ (m : ℕ) (service : List ℕ) (set j : ℕ) where
       rw (near_is, x_is, passed_more list t, take, skip)
 
   -- all places are passed
-  passed_all : (v : ℕ → ℕ) (list : List ℕ) (count : ℕ) → list ≡ (members_of set).list → count ≡ (members_of set).count → m ≤ 32 → set < 2 ^ m
-      → two_least no_facility (passed list count) (member set) v ≡ two_least no_facility m (member set) v
-  passed_all v list count list_is count_is few small =
-      let r = last set list count list_is count_is in
-      sym (two_skip no_facility (passed list count) 32 (member set) v r.within r.none)
+  passed_all : (v : ℕ → ℕ) (list : List ℕ) → Listed set list → m ≤ 32 → set < 2 ^ m
+      → two_least no_facility (passed list (length list)) (member set) v ≡ two_least no_facility m (member set) v
+  passed_all v list listed few small =
+      let r = listed_last set 32 list listed in
+      sym (two_skip no_facility (passed list (length list)) 32 (member set) v r.within r.none)
       ∙ two_skip no_facility m 32 (member set) v few (λ i a b. fails (λ e. let l = member_below m set i small e in omega arith))
 
-  pub near_all : (list : List ℕ) (count : ℕ) → list ≡ (members_of set).list → count ≡ (members_of set).count → m ≤ 32 → set < 2 ^ m
-      → near_below (passed list count) ≡ near_two m service set j
+  pub near_all : (list : List ℕ) → Listed set list → m ≤ 32 → set < 2 ^ m
+      → near_below (passed list (length list)) ≡ near_two m service set j
   unfolding near_two
   near_all = passed_all (packed (entry m service j))
 
@@ -114,11 +99,11 @@ module _ (m : ℕ) (service : List ℕ) (set j : ℕ) where
       (sym (ap (λ (u : Two). u.first) take ∙ first_with (v i) (two_least no_facility i (member set) v) ∙ ap (λ (u : Two). min (v i) u.first) skip))
 
   -- all places are passed: what is found is the second nearest, where the one that is known is the nearest
-  pub least_all : (first : ℕ) (list : List ℕ) (count : ℕ) → list ≡ (members_of set).list → count ≡ (members_of set).count → m ≤ 32 → set < 2 ^ m
-      → first ≡ (near_two m service set j).first → least_below first (passed list count) ≡ (near_two m service set j).second
+  pub least_all : (first : ℕ) (list : List ℕ) → Listed set list → m ≤ 32 → set < 2 ^ m
+      → first ≡ (near_two m service set j).first → least_below first (passed list (length list)) ≡ (near_two m service set j).second
   unfolding near_two
-  least_all first list count list_is count_is few small first_is =
-      ap (λ (t : Two). t.first) (passed_all (others first) list count list_is count_is few small)
+  least_all first list listed few small first_is =
+      ap (λ (t : Two). t.first) (passed_all (others first) list listed few small)
       ∙ rw first_is (packed_second no_facility m (member set) (entry m service j) few)
 
   pub near_in_order : InOrder (near_of (near_two m service set j))

@@ -52,9 +52,9 @@ unfoldable pub try_drop : List ℕ → ℕ → ℕ → List ℕ → ℕ → Pric
 try_drop opening set cost kept o b = cheaper (without set o) (cost + get_or kept (loss_from + o) 0 - get_or opening o 0) b
 
 -- every drop of a listed facility, where two or more are listed
-unfoldable pub best_drop : List ℕ → ℕ → ℕ → List ℕ → List ℕ → ℕ → Priced → Priced
-best_drop opening set cost kept list count start =
-    cond (ltb count 2) start (through count (at_place list (try_drop opening set cost kept)) start)
+unfoldable pub best_drop : List ℕ → ℕ → ℕ → List ℕ → List ℕ → Priced → Priced
+best_drop opening set cost kept list start =
+    cond (ltb (length list) 2) start (through (length list) (at_place list (try_drop opening set cost kept)) start)
 
 -- ---- swaps
 
@@ -71,27 +71,25 @@ unfoldable pub swap_out : List ℕ → ℕ → ℕ → List ℕ → List ℕ →
 swap_out opening m set costs kept o b = best_swap_out m set costs kept o (get_or opening o 0) b
 
 -- every swap of a listed facility
-unfoldable pub best_swap : List ℕ → ℕ → ℕ → List ℕ → List ℕ → List ℕ → ℕ → Priced → Priced
-best_swap opening m set costs kept list count start = through count (at_place list (swap_out opening m set costs kept)) start
+unfoldable pub best_swap : List ℕ → ℕ → ℕ → List ℕ → List ℕ → List ℕ → Priced → Priced
+best_swap opening m set costs kept list start = through (length list) (at_place list (swap_out opening m set costs kept)) start
 
 -- ---- the moves of each kind
 
 -- the adds, the drops, the swaps, each from where the last ended; or the swaps alone
-unfoldable pub best_move : Neighbourhood → List ℕ → ℕ → List ℕ → List ℕ → List ℕ → ℕ → Priced → Priced
-best_move AddDropSwap opening m costs kept list count b =
-    best_swap opening m b.set costs kept list count
-    (best_drop opening b.set b.cost kept list count (best_add m b.set costs b))
-best_move Swap opening m costs kept list count b = best_swap opening m b.set costs kept list count b
+unfoldable pub best_move : Neighbourhood → List ℕ → ℕ → List ℕ → List ℕ → List ℕ → Priced → Priced
+best_move AddDropSwap opening m costs kept list b =
+    best_swap opening m b.set costs kept list (best_drop opening b.set b.cost kept list (best_add m b.set costs b))
+best_move Swap opening m costs kept list b = best_swap opening m b.set costs kept list b
 
 -- ---- what the functions require
 
 -- the listed facilities have places in the table of opening costs, and each costs at most so much
-pub record ListedWithin (opening list : List ℕ) (count most : ℕ) : Type 0 where
+pub record ListedWithin (opening list : List ℕ) (most : ℕ) : Type 0 where
   pub opening_room : most_facilities ≤ length opening
-  pub list_room : count ≤ length list
-  pub few : count ≤ most_facilities
-  pub below : (t : ℕ) → t < count → get_or list t 0 < most_facilities
-  pub small : (t : ℕ) → t < count → get_or opening (get_or list t 0) 0 ≤ most
+  pub few : length list ≤ most_facilities
+  pub below : (t : ℕ) → t < length list → get_or list t 0 < most_facilities
+  pub small : (t : ℕ) → t < length list → get_or opening (get_or list t 0) 0 ≤ most
 
 -- what the clients of each facility pay more where it goes
 pub record Losses (kept : List ℕ) : Type 0 where
@@ -99,8 +97,8 @@ pub record Losses (kept : List ℕ) : Type 0 where
   pub small : (o : ℕ) → o < most_facilities → get_or kept (loss_from + o) 0 ≤ most_served
 
 -- what opening the listed facilities costs
-unfoldable pub listed_openings : List ℕ → List ℕ → ℕ → ℕ
-listed_openings opening list count = sum count (λ t. get_or opening (get_or list t 0) 0)
+unfoldable pub listed_openings : List ℕ → List ℕ → ℕ
+listed_openings opening list = sum (length list) (λ t. get_or opening (get_or list t 0) 0)
 
 -- the row of swaps that o goes out by: every price is at least what is saved
 pub record SwapRow (m : ℕ) (costs kept : List ℕ) (o saved : ℕ) : Type 0 where
@@ -111,10 +109,9 @@ pub record SwapRow (m : ℕ) (costs kept : List ℕ) (o saved : ℕ) : Type 0 wh
   pub enough : (i : ℕ) → i < most_facilities → saved ≤ get_or costs i 0
 
 -- the rows of all listed facilities
-pub record SwapRows (opening : List ℕ) (m : ℕ) (costs kept list : List ℕ) (count : ℕ) : Type 0 where
+pub record SwapRows (opening : List ℕ) (m : ℕ) (costs kept list : List ℕ) : Type 0 where
   pub opening_room : most_facilities ≤ length opening
-  pub list_room : count ≤ length list
-  pub rows : (t : ℕ) → t < count → SwapRow m costs kept (get_or list t 0) (get_or opening (get_or list t 0) 0)
+  pub rows : (t : ℕ) → t < length list → SwapRow m costs kept (get_or list t 0) (get_or opening (get_or list t 0) 0)
 
 -- ---- the price of every move
 

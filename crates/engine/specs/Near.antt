@@ -3,10 +3,10 @@ use Rattle.std.specs.Prelude.{ℕ, ◌%◌, ◌^◌, ◌≤◌, ◌<◌, ◌≡�
 use Rattle.model.specs.Loops.{leading}
 use Rattle.model.specs.Sets.{member, plus, minus}
 use Rattle.model.specs.TwoLeast.{Two, two, two_least, packed}
-use Rattle.sets.specs.Members.{members_of}
+use Rattle.sets.specs.Members.{rising_below}
 use Rattle.tables.specs.Bounds.{most_facilities}
 use Rattle.engine.specs.Bounds.{no_facility}
-use Rattle.engine.specs.Rows.{entry, Rows}
+use Rattle.engine.specs.Rows.{entry}
 use Rattle.engine.specs.declared.near.Near.{Near}
 
 -- ---- among those of a set
@@ -28,9 +28,8 @@ pub record InOrder (near : Near) : Type 0 where
   pub within : near.second ≤ no_facility
 
 -- the facilities of a set, listed
-pub record Listed (set : ℕ) (list : List ℕ) (count : ℕ) : Type 0 where
-  pub list_is : list ≡ (members_of set).list
-  pub count_is : count ≡ (members_of set).count
+abbrev pub Listed : ℕ → List ℕ → Type 0
+Listed set list = list ≡ rising_below most_facilities set
 
 -- ---- from one set to the next
 
@@ -58,12 +57,10 @@ goes_to near o = eqb (near.first % most_facilities) o || eqb (near.second % most
 
 -- Client j has these two nearest facilities of the set. The move leads to `next`, whose facilities are listed; `arrived` is what the
 -- facility that came is to the client.
-pub record Moving (m n : ℕ) (service : List ℕ) (j set next : ℕ) (near : Near) (came went arrived : ℕ) (list : List ℕ) (count : ℕ) : Type 0 where
-  pub rows : Rows m n service
+pub record Moving (m n : ℕ) (service : List ℕ) (j set next : ℕ) (near : Near) (came went arrived : ℕ) (list : List ℕ) : Type 0 where
   pub client : j < n
   pub next_small : next < 2 ^ m
   pub moved : Moved m set next came went
   pub near_is : near ≡ near_of (near_two m service set j)
   pub arrived_is : arrived ≡ arrival_at m service came j
-  pub list_is : list ≡ (members_of next).list
-  pub count_is : count ≡ (members_of next).count
+  pub listed : Listed next list

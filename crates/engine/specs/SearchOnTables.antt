@@ -1,5 +1,5 @@
 -- What the engine's call answers: the search of the model with a limit on moves, by the total cost of the tables' instance.
-use Rattle.std.specs.Prelude.{ℕ, ◌^◌, Bool, true, cond, ◌&&◌, List, leb, ltb}
+use Rattle.std.specs.Prelude.{ℕ, ◌^◌, Bool, true, cond, ◌&&◌, List, leb, ltb, Option, Some, None}
 use Rattle.model.specs.Instance.{Instance}
 use Rattle.model.specs.Limit.{Outcome, search_within}
 use Rattle.model.specs.Plans.{open_start}
@@ -9,7 +9,7 @@ use Rattle.engine.specs.declared.Neighbourhood.{Neighbourhood}
 use Rattle.engine.specs.declared.Start.{Start}
 use Rattle.engine.specs.declared.Start.TheVariants.{Cheapest, Set}
 use Rattle.engine.specs.declared.Found.{Found}
-use Rattle.engine.specs.declared.Found.TheVariants.{Refused, Stopped, Settled}
+use Rattle.engine.specs.declared.Found.TheVariants.{Stopped, Settled}
 
 -- a set to begin at is one of facilities that has one
 unfoldable pub good_start : ℕ → Start → Bool
@@ -25,10 +25,10 @@ start_set (Set set) I = set
 unfoldable pub found : (ℕ → ℕ) → Outcome → Found
 found cost r = cond r.stopped (Stopped r.set (cost r.set) r.steps) (Settled r.set (cost r.set) r.steps)
 
--- the search with at most `limit` moves; refused where the tables or the start are not good
-unfoldable pub searching : Neighbourhood → Start → ℕ → List ℕ → List ℕ → ℕ → ℕ → Found
+-- the search with at most `limit` moves; none where the tables or the start are not good
+unfoldable pub searching : Neighbourhood → Start → ℕ → List ℕ → List ℕ → ℕ → ℕ → Option Found
 searching moves start limit opening service m n =
     cond (good_tables m n opening service && good_start m start)
-    (found (table_cost m n opening service)
-    (search_within (table_cost m n opening service) (neighbours_by moves m) limit (start_set start (tabled m n opening service))))
-    Refused
+    (Some (found (table_cost m n opening service)
+    (search_within (table_cost m n opening service) (neighbours_by moves m) limit (start_set start (tabled m n opening service)))))
+    None

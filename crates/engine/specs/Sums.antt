@@ -19,8 +19,8 @@ abbrev pub second_at : List ℕ → ℕ → ℕ
 second_at kept j = get_or kept (seconds_from + j) 0
 
 -- nothing is above what stands for a missing facility
-abbrev pub FirstsWithin : ℕ → List ℕ → Type 0
-FirstsWithin n kept = (j : ℕ) → j < n → first_at kept j ≤ no_facility
+abbrev pub FirstsWithin : List ℕ → Type 0
+FirstsWithin firsts = (j : ℕ) → j < length firsts → get_or firsts j 0 ≤ no_facility
 
 -- ---- sums over the clients
 

@@ -8,6 +8,7 @@ pub const NO_LIMIT: u64 = 4294967295;
 pub(crate) const COST_STEP: u64 = MOST_FACILITIES as u64;
 
 // Stands for a facility that is missing: the highest cost and the last facility.
+// Stays a number, and no Option: a cost and its facility are compared, and kept in the table, as one number of 64 bits.
 pub(crate) const NO_FACILITY: u64 = COST_STEP * MOST_ENTRY as u64 + 31;
 
 // Stands for the opening cost of a place that is no facility.
@@ -16,6 +17,7 @@ pub(crate) const NO_OPENING: u64 = 1000000000000;
 pub(crate) const TOP_BIT: u64 = 9223372036854775808;
 
 // Where the stretches of the kept table begin, after the nearest facilities, and its length.
+// Stays one table with stretches: what may not change is `rows::shift_in` and `rows::shift_out`, which take two stretches of one slice.
 pub(crate) const SECONDS: usize = MOST_CLIENTS;
 
 pub(crate) const ADDED: usize = SECONDS + MOST_CLIENTS;

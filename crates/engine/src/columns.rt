@@ -5,6 +5,7 @@ ghost use Rattle.engine.specs.Bounds.{kept_length};
 ghost use Rattle.engine.specs.Rows.{Rows, Addable, RowAdded, Aside, NoSums, ColumnSums};
 
 use crate::bounds::ADDED;
+use crate::service::Service;
 use tables::MOST_FACILITIES;
 
 // Adds a row to the sums of its columns.
@@ -12,10 +13,8 @@ fn add_row(service: &[u32], row: usize, width: usize, kept: &mut [u64])
     requires { Addable width service.now row kept.old }
     ensures { RowAdded width service.now row kept.old kept.new }
 {
-    let mut i = 0;
-    while i < width {
+    for i in 0..width {
         kept[ADDED + i] = kept[ADDED + i] + service[row + i] as u64;
-        i += 1;
     }
 }
 
@@ -33,15 +32,13 @@ fn columns(m: usize) -> usize
 }
 
 // The sums of all rows: what each facility alone costs.
-pub(crate) fn add_rows(service: &[u32], m: usize, n: usize, kept: &mut [u64])
-    requires { Rows m n service.now × (kept_length ≤ length kept.old) × NoSums kept.old }
-    ensures sums { ColumnSums m n service.now kept.new }
+pub(crate) fn add_rows(service: Service, kept: &mut [u64])
+    requires { (kept_length ≤ length kept.old) × NoSums kept.old }
+    ensures sums { ColumnSums service.entry.m service.entry.n service.entry.costs.now kept.new }
     ensures aside { Aside kept.old kept.new }
 {
-    let width = columns(m);
-    let mut j = 0;
-    while j < n {
-        add_row(service, j * m, width, kept);
-        j += 1;
+    let width = columns(service.m);
+    for j in 0..service.n {
+        add_row(service.costs, j * service.m, width, kept);
     }
 }

@@ -10,29 +10,25 @@ use crate::bounds::{ADDED, COST_STEP};
 use tables::MOST_FACILITIES;
 
 // What opening the listed facilities costs.
-pub(crate) fn openings_of(opening: &[u64], list: &[u8], count: usize) -> u64
-    requires { ListedWithin opening.now list.now count most_opening }
-    ensures { result ≡ listed_openings opening.now list.now count }
+pub(crate) fn openings_of(opening: &[u64], list: &[u8]) -> u64
+    requires { ListedWithin opening.now list.now most_opening }
+    ensures { result ≡ listed_openings opening.now list.now }
 {
     let mut total: u64 = 0;
-    let mut t = 0;
-    while t < count {
-        total += opening[list[t] as usize];
-        t += 1;
+    for o in list {
+        total += opening[*o as usize];
     }
     total
 }
 
-// What it costs to serve all clients from their nearest facilities.
-pub(crate) fn nearest_costs(kept: &[u64], n: usize) -> u64
-    requires { (n ≤ length kept.now) × (n ≤ most_clients) × FirstsWithin n kept.now }
-    ensures { result ≡ sum n (λ j. get_or kept.now j 0 / most_facilities) }
+// What it costs to serve all clients from these, their nearest facilities.
+pub(crate) fn nearest_costs(firsts: &[u64]) -> u64
+    requires { (length firsts.now ≤ most_clients) × FirstsWithin firsts.now }
+    ensures { result ≡ sum (length firsts.now) (λ j. get_or firsts.now j 0 / most_facilities) }
 {
     let mut total: u64 = 0;
-    let mut j = 0;
-    while j < n {
-        total += kept[j] / COST_STEP;
-        j += 1;
+    for first in firsts {
+        total += *first / COST_STEP;
     }
     total
 }
@@ -42,9 +38,7 @@ pub(crate) fn add_up(opened: u64, opening: &[u64], kept: &[u64], costs: &mut [u6
     requires { Adding opened opening.now kept.now costs.old }
     ensures { Added most_facilities opened opening.now kept.now costs.new }
 {
-    let mut i = 0;
-    while i < MOST_FACILITIES {
+    for i in 0..MOST_FACILITIES {
         costs[i] = opened + opening[i] + kept[ADDED + i];
-        i += 1;
     }
 }

@@ -17,41 +17,33 @@ use crate::bounds::ADDED;
 use crate::clients::{begin, move_to};
 use crate::cost::{add_up, nearest_costs, openings_of};
 use crate::moves::{Priced, best_move, better_of};
+use crate::service::Service;
 use crate::{Found, Neighbourhood, Start};
 use tables::MOST_FACILITIES;
 
 // The single facility of least cost, the lowest number among equals: its opening cost and the sum of its column.
-fn cheapest(opening: &[u64], service: &[u32], m: usize, n: usize, kept: &[u64]) -> Priced
-    requires { Rows m n service.now × Openings m opening.now × (1 ≤ m) × (kept_length ≤ length kept.now) × ColumnSums m n service.now kept.now }
-    ensures { result ≡ priced (table_cost m n opening.now service.now) (open_start (tabled m n opening.now service.now)) }
+fn cheapest(opening: &[u64], service: Service, kept: &[u64]) -> Priced
+    requires { Openings service.m opening.now × (1 ≤ service.m) × (kept_length ≤ length kept.now) × ColumnSums service.m service.n service.costs.now kept.now }
+    ensures { result ≡ priced (table_cost service.entry.m service.entry.n opening.now service.entry.costs.now) (open_start (tabled service.entry.m service.entry.n opening.now service.entry.costs.now)) }
 {
     let mut b = Priced {
         set: 1,
         cost: opening[0] + kept[ADDED],
     };
-    let mut i = 1;
-    while i < m {
+    for i in 1..service.m {
         b = better_of(sets::added(0, i), opening[i] + kept[ADDED + i], b);
-        i += 1;
     }
     b
 }
 
 // The set that a search begins at.
-pub(crate) fn first_set(
-    start: Start,
-    opening: &[u64],
-    service: &[u32],
-    m: usize,
-    n: usize,
-    kept: &[u64],
-) -> u32
-    requires { Rows m n service.now × Openings m opening.now × (1 ≤ m) × (kept_length ≤ length kept.now) × ColumnSums m n service.now kept.now }
-    ensures { result ≡ start_set start (tabled m n opening.now service.now) }
+pub(crate) fn first_set(start: Start, opening: &[u64], service: Service, kept: &[u64]) -> u32
+    requires { Openings service.m opening.now × (1 ≤ service.m) × (kept_length ≤ length kept.now) × ColumnSums service.m service.n service.costs.now kept.now }
+    ensures { result ≡ start_set start (tabled service.entry.m service.entry.n opening.now service.entry.costs.now) }
 {
     match start {
         Start::Cheapest => {
-            let alone = cheapest(opening, service, m, n, kept);
+            let alone = cheapest(opening, service, kept);
             alone.set
         }
         Start::Set(set) => set,
@@ -59,36 +51,32 @@ pub(crate) fn first_set(
 }
 
 // What the set costs that the kept table is that of.
-fn cost_now(opening: &[u64], service: &[u32], m: usize, n: usize, set: u32, kept: &[u64]) -> u64
-    requires { KeptOf m n service.now set kept.now × Openings m opening.now }
-    ensures { result ≡ table_cost m n opening.now service.now set }
+fn cost_now(opening: &[u64], service: Service, set: u32, kept: &[u64]) -> u64
+    requires { KeptOf service.m service.n service.costs.now set kept.now × Openings service.m opening.now }
+    ensures { result ≡ table_cost service.entry.m service.entry.n opening.now service.entry.costs.now set }
 {
     let members = sets::members_of(set);
-    let list = members.list;
-    let opened = openings_of(opening, &list, members.count);
-    opened + nearest_costs(kept, n)
+    let opened = openings_of(opening, &members.list[..members.count]);
+    opened + nearest_costs(&kept[..service.n])
 }
 
 // The set after the best move, or the set itself where no move lowers the cost.
 fn choose(
     neighbourhood: Neighbourhood,
     opening: &[u64],
-    service: &[u32],
-    m: usize,
-    n: usize,
+    service: Service,
     b: Priced,
     kept: &[u64],
 ) -> Priced
-    requires { KeptOf m n service.now b.set kept.now × Openings m opening.now × (b ≡ priced (table_cost m n opening.now service.now) b.set) }
-    ensures { result ≡ priced (table_cost m n opening.now service.now) (next (table_cost m n opening.now service.now) (neighbours_by neighbourhood m) b.set) }
+    requires { KeptOf service.m service.n service.costs.now b.set kept.now × Openings service.m opening.now × (b ≡ priced (table_cost service.m service.n opening.now service.costs.now) b.set) }
+    ensures { result ≡ priced (table_cost service.entry.m service.entry.n opening.now service.entry.costs.now) (next (table_cost service.entry.m service.entry.n opening.now service.entry.costs.now) (neighbours_by neighbourhood service.entry.m) b.set) }
 {
     let members = sets::members_of(b.set);
-    let list = members.list;
-    let count = members.count;
+    let list = &members.list[..members.count];
     let mut costs = [0u64; MOST_FACILITIES];
-    let opened = openings_of(opening, &list, count);
+    let opened = openings_of(opening, list);
     add_up(opened, opening, kept, &mut costs);
-    best_move(neighbourhood, opening, m, b, &costs, kept, &list, count)
+    best_move(neighbourhood, opening, service.m, b, &costs, kept, list)
 }
 
 // The search from a set with at most so many moves, by the table that is lent: nothing is counted in it yet.
@@ -97,22 +85,20 @@ pub(crate) fn descend(
     start: u32,
     limit: u64,
     opening: &[u64],
-    service: &[u32],
-    m: usize,
-    n: usize,
+    service: Service,
     kept: &mut [u64],
 ) -> Found
-    requires { Kept m n service.now kept.old × NearUpTo m n service.now kept.old start 0 × Openings m opening.now × (start < 2 ^ m) × (any m (member start) ≡ true) }
-    ensures { result ≡ found (table_cost m n opening.now service.now) (search_within (table_cost m n opening.now service.now) (neighbours_by neighbourhood m) limit start) }
+    requires { Kept service.m service.n service.costs.now kept.old × NearUpTo service.m service.n service.costs.now kept.old start 0 × Openings service.m opening.now × (start < 2 ^ service.m) × (any service.m (member start) ≡ true) }
+    ensures { result ≡ found (table_cost service.entry.m service.entry.n opening.now service.entry.costs.now) (search_within (table_cost service.entry.m service.entry.n opening.now service.entry.costs.now) (neighbours_by neighbourhood service.entry.m) limit start) }
 {
-    begin(service, m, n, start, kept);
+    begin(service, start, kept);
     let mut b = Priced {
         set: start,
-        cost: cost_now(opening, service, m, n, start, kept),
+        cost: cost_now(opening, service, start, kept),
     };
     let mut moves: u64 = 0;
     loop {
-        let next = choose(neighbourhood, opening, service, m, n, b, kept);
+        let next = choose(neighbourhood, opening, service, b, kept);
         let set = b.set;
         let cost = b.cost;
         let lowest = next.cost;
@@ -122,7 +108,7 @@ pub(crate) fn descend(
         if limit <= moves {
             break Found::Stopped { set, cost, moves };
         }
-        move_to(service, m, n, set, next.set, kept);
+        move_to(service, set, next.set, kept);
         b = next;
         moves += 1;
     }

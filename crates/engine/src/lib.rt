@@ -9,15 +9,16 @@
 mod bounds;
 mod clients;
 mod columns;
-mod copies;
 mod cost;
 mod descent;
 mod moves;
 mod near;
+mod service;
 mod sums;
 
-ghost use Rattle.std.specs.Prelude.{◌≡◌, true};
+ghost use Rattle.std.specs.Prelude.{◌≡◌, ◌≤◌, true};
 ghost use Rattle.model.specs.Limit.{search_within};
+ghost use Rattle.tables.specs.Bounds.{most_facilities};
 ghost use Rattle.tables.specs.Tables.{tabled, table_cost, good_tables};
 ghost use Rattle.engine.specs.Tables.{Blank};
 ghost use Rattle.engine.specs.Sums.{Prepared};
@@ -26,6 +27,7 @@ ghost use Rattle.engine.specs.SearchOnTables.{good_start, start_set, found, sear
 
 pub use bounds::NO_LIMIT;
 use bounds::{ADDED, KEPT, NO_FACILITY, NO_OPENING, SERVICE};
+use service::Service;
 use tables::MOST_FACILITIES;
 
 // Which moves a search makes.
@@ -42,16 +44,16 @@ pub enum Start {
     Set(u32),
 }
 
-// How a search comes out. Refused: not begun, for its tables or its start. Stopped: all the moves that it may were made, and another would
-// lower the cost. Settled: no move lowers the cost. With the set, its cost and the moves made.
+// How a search comes out. Stopped: all the moves that it may were made, and another would lower the cost. Settled: no move lowers the cost. With the
+// set, its cost and the moves made.
 #[derive(Clone, Copy)]
 pub enum Found {
-    Refused,
     Stopped { set: u32, cost: u64, moves: u64 },
     Settled { set: u32, cost: u64, moves: u64 },
 }
 
-// The search with at most `limit` moves, on one opening cost for each of m facilities and a row of m service costs for each of n clients.
+// The search with at most `limit` moves, on one opening cost for each of m facilities and a row of m service costs for each of n clients. None where
+// the tables or the start are not good.
 pub fn search(
     moves: Neighbourhood,
     start: Start,
@@ -60,16 +62,27 @@ pub fn search(
     service: &[u32],
     m: usize,
     n: usize,
-) -> Found
+) -> Option<Found>
     ensures { result ≡ searching moves start limit opening.now service.now m n }
 {
     if !tables::tables_good(opening, service, m, n) {
-        return Found::Refused;
+        return None;
     }
-    if !copies::start_good(m, start) {
-        return Found::Refused;
+    if !start_good(m, start) {
+        return None;
     }
-    search_on(moves, start, limit, opening, service, m, n)
+    Some(search_on(moves, start, limit, opening, service, m, n))
+}
+
+// Does a search begin there?
+fn start_good(m: usize, start: Start) -> bool
+    requires { m ≤ most_facilities }
+    ensures { result ≡ good_start m start }
+{
+    match start {
+        Start::Cheapest => true,
+        Start::Set(set) => 1 <= set && (set as u64) < (1u64 << (m as u64)),
+    }
 }
 
 // Copies the tables, and prepares the kept one: no client is counted, and the sums are those of the columns.
@@ -85,10 +98,10 @@ fn prepare(
     requires { (good_tables m n opening.now service.now ≡ true) × Blank openings.old rows.old kept.old }
     ensures { Prepared m n opening.now service.now openings.new rows.new kept.new }
 {
-    copies::copy_opening(opening, m, openings);
-    copies::copy_service(service, n * m, rows);
-    copies::put_front(ADDED, NO_FACILITY, kept);
-    columns::add_rows(rows, m, n, kept);
+    openings[..m].copy_from_slice(&opening[..m]);
+    rows[..n * m].copy_from_slice(&service[..n * m]);
+    kept[..ADDED].fill(NO_FACILITY);
+    columns::add_rows(Service { costs: rows, m, n }, kept);
 }
 
 fn search_on(
@@ -107,6 +120,7 @@ fn search_on(
     let mut rows = [0u32; SERVICE];
     let mut kept = [0u64; KEPT];
     prepare(opening, service, m, n, &mut openings, &mut rows, &mut kept);
-    let first = descent::first_set(start, &openings, &rows, m, n, &kept);
-    descent::descend(moves, first, limit, &openings, &rows, m, n, &mut kept)
+    let rows = Service { costs: &rows, m, n };
+    let first = descent::first_set(start, &openings, rows, &kept);
+    descent::descend(moves, first, limit, &openings, rows, &mut kept)
 }

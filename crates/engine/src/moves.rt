@@ -48,15 +48,15 @@ fn try_add(set: u32, from: u32, i: usize, cost: u64, b: Priced) -> Priced
     }
 }
 
+// Stays a loop of its own beside that of `best_swap_out`: one function for both would take a closure for the price and state what it returns
+// at each number, longer than the line that the two share.
 fn best_add(m: usize, set: u32, start: Priced, costs: &[u64]) -> Priced
     requires { m ≤ length costs.now }
     ensures { result ≡ best_add m set costs.now start }
 {
     let mut b = start;
-    let mut i = 0;
-    while i < m {
+    for i in 0..m {
         b = try_add(set, set, i, costs[i], b);
-        i += 1;
     }
     b
 }
@@ -69,21 +69,18 @@ fn best_drop(
     start: Priced,
     kept: &[u64],
     list: &[u8],
-    count: usize,
 ) -> Priced
-    requires { ListedWithin opening.now list.now count cost × Losses kept.now × (cost ≤ most_cost) }
-    ensures { result ≡ best_drop opening.now set cost kept.now list.now count start }
+    requires { ListedWithin opening.now list.now cost × Losses kept.now × (cost ≤ most_cost) }
+    ensures { result ≡ best_drop opening.now set cost kept.now list.now start }
 {
-    if count < 2 {
+    if list.len() < 2 {
         return start;
     }
     let mut b = start;
-    let mut t = 0;
-    while t < count {
-        let o = list[t] as usize;
+    for listed in list {
+        let o = *listed as usize;
         let price = cost + kept[LOSS + o] - opening[o];
         b = better_of(sets::removed(set, o), price, b);
-        t += 1;
     }
     b
 }
@@ -96,10 +93,8 @@ fn dear_count(more: &[u64], at: usize, costs: &[u64], bound: u64) -> u64
 {
     let lift = TOP_BIT - bound;
     let mut total: u64 = 0;
-    let mut i = 0;
-    while i < MOST_FACILITIES {
+    for i in 0..MOST_FACILITIES {
         total += (more[at + i] + costs[i] + lift) / TOP_BIT;
-        i += 1;
     }
     total
 }
@@ -123,11 +118,9 @@ fn best_swap_out(
     }
     let without = sets::removed(set, o);
     let mut b = start;
-    let mut i = 0;
-    while i < m {
+    for i in 0..m {
         let price = kept[row + i] + costs[i] - saved;
         b = try_add(set, without, i, price, b);
-        i += 1;
     }
     b
 }
@@ -140,17 +133,14 @@ fn best_swap(
     costs: &[u64],
     kept: &[u64],
     list: &[u8],
-    count: usize,
 ) -> Priced
-    requires { SwapRows opening.now m costs.now kept.now list.now count × (start.cost ≤ most_cost) }
-    ensures { result ≡ best_swap opening.now m set costs.now kept.now list.now count start }
+    requires { SwapRows opening.now m costs.now kept.now list.now × (start.cost ≤ most_cost) }
+    ensures { result ≡ best_swap opening.now m set costs.now kept.now list.now start }
 {
     let mut b = start;
-    let mut t = 0;
-    while t < count {
-        let o = list[t] as usize;
+    for listed in list {
+        let o = *listed as usize;
         b = best_swap_out(m, set, o, opening[o], b, costs, kept);
-        t += 1;
     }
     b
 }
@@ -164,17 +154,16 @@ pub(crate) fn best_move(
     costs: &[u64],
     kept: &[u64],
     list: &[u8],
-    count: usize,
 ) -> Priced
-    requires { ListedWithin opening.now list.now count b.cost × Losses kept.now × (b.cost ≤ most_cost) × (m ≤ length costs.now) × SwapRows opening.now m costs.now kept.now list.now count }
-    ensures { result ≡ best_move neighbourhood opening.now m costs.now kept.now list.now count b }
+    requires { ListedWithin opening.now list.now b.cost × Losses kept.now × (b.cost ≤ most_cost) × (m ≤ length costs.now) × SwapRows opening.now m costs.now kept.now list.now }
+    ensures { result ≡ best_move neighbourhood opening.now m costs.now kept.now list.now b }
 {
     match neighbourhood {
         Neighbourhood::AddDropSwap => {
             let added = best_add(m, b.set, b, costs);
-            let dropped = best_drop(opening, b.set, b.cost, added, kept, list, count);
-            best_swap(opening, m, b.set, dropped, costs, kept, list, count)
+            let dropped = best_drop(opening, b.set, b.cost, added, kept, list);
+            best_swap(opening, m, b.set, dropped, costs, kept, list)
         }
-        Neighbourhood::Swap => best_swap(opening, m, b.set, b, costs, kept, list, count),
+        Neighbourhood::Swap => best_swap(opening, m, b.set, b, costs, kept, list),
     }
 }

@@ -1,11 +1,11 @@
 // A client's two nearest facilities: among those of a set, and after a move.
 ghost use Rattle.std.specs.Prelude.{◌≡◌, ◌^◌, ◌<◌};
 ghost use Rattle.model.specs.TwoLeast.{insert, packed};
-ghost use Rattle.sets.specs.Members.{members_of};
 ghost use Rattle.engine.specs.Rows.{Rows, entry};
-ghost use Rattle.engine.specs.Near.{near_two, two_of, near_of, new_in, arrival_at, goes_to, Moving};
+ghost use Rattle.engine.specs.Near.{near_two, two_of, near_of, Listed, new_in, arrival_at, goes_to, Moving};
 
 use crate::bounds::{COST_STEP, NO_FACILITY};
+use crate::service::Service;
 use tables::MOST_FACILITIES;
 
 // A client's two nearest facilities, each with its cost in one number.
@@ -35,45 +35,35 @@ pub(crate) fn inserted(x: u64, near: Near) -> Near
 }
 
 // Facility i and its cost to client j in one number.
-fn packed_at(service: &[u32], m: usize, n: usize, j: usize, i: usize) -> u64
-    requires { Rows m n service.now × (j < n) × (i < m) }
-    ensures { result ≡ packed (entry m service.now j) i }
+fn packed_at(service: Service, j: usize, i: usize) -> u64
+    requires { (j < service.n) × (i < service.m) }
+    ensures { result ≡ packed (entry service.entry.m service.entry.costs.now j) i }
 {
-    COST_STEP * (service[j * m + i] as u64) + (i as u64)
+    COST_STEP * (service.costs[j * service.m + i] as u64) + (i as u64)
 }
 
 // The two nearest of the set's facilities, which are listed.
-pub(crate) fn near_of(
-    service: &[u32],
-    m: usize,
-    n: usize,
-    j: usize,
-    set: u32,
-    list: &[u8],
-    count: usize,
-) -> Near
-    requires { Rows m n service.now × (j < n) × (set < 2 ^ m) × (list.now ≡ (members_of set).list) × (count ≡ (members_of set).count) }
-    ensures { result ≡ near_of (near_two m service.now set j) }
+pub(crate) fn near_of(service: Service, j: usize, set: u32, list: &[u8]) -> Near
+    requires { (j < service.n) × (set < 2 ^ service.m) × Listed set list.now }
+    ensures { result ≡ near_of (near_two service.entry.m service.entry.costs.now set j) }
 {
     let mut near = Near {
         first: NO_FACILITY,
         second: NO_FACILITY,
     };
-    let mut t = 0;
-    while t < count {
-        near = inserted(packed_at(service, m, n, j, list[t] as usize), near);
-        t += 1;
+    for i in list {
+        near = inserted(packed_at(service, j, *i as usize), near);
     }
     near
 }
 
 // What the facility that came is to client j.
-pub(crate) fn arrival(service: &[u32], m: usize, n: usize, j: usize, came: usize) -> u64
-    requires { Rows m n service.now × (j < n) }
-    ensures { result ≡ arrival_at m service.now came j }
+pub(crate) fn arrival(service: Service, j: usize, came: usize) -> u64
+    requires { j < service.n }
+    ensures { result ≡ arrival_at service.entry.m service.entry.costs.now came j }
 {
-    if came < m {
-        return packed_at(service, m, n, j, came);
+    if came < service.m {
+        return packed_at(service, j, came);
     }
     NO_FACILITY
 }
@@ -86,51 +76,36 @@ pub(crate) fn goes_to(near: Near, o: usize) -> bool
 }
 
 // The least number in `after` and not in `before`; 32 where there is none.
+// Stays a number, and no Option: with that here, open plans took 3 to 4 in a hundred longer; in the loops over clients too, all plans 1 to 3.
 pub(crate) fn newcomer(before: u32, after: u32) -> usize
     ensures { result ≡ new_in before after }
 {
-    let mut i = 0;
-    while i < MOST_FACILITIES {
+    for i in 0..MOST_FACILITIES {
         if sets::has(after, i) && !sets::has(before, i) {
             return i;
         }
-        i += 1;
     }
     MOST_FACILITIES
 }
 
 // The second nearest of the set's facilities, which are listed, where the nearest is known: that one counts as missing.
-fn second_of(
-    service: &[u32],
-    m: usize,
-    n: usize,
-    j: usize,
-    set: u32,
-    first: u64,
-    list: &[u8],
-    count: usize,
-) -> u64
-    requires { Rows m n service.now × (j < n) × (set < 2 ^ m) × (list.now ≡ (members_of set).list) × (count ≡ (members_of set).count) × (first ≡ (near_two m service.now set j).first) }
-    ensures { result ≡ (near_two m service.now set j).second }
+// Stays beside `near_of`: with `near_of` called here instead, limited plans took 4 in a hundred longer.
+fn second_of(service: Service, j: usize, set: u32, first: u64, list: &[u8]) -> u64
+    requires { (j < service.n) × (set < 2 ^ service.m) × Listed set list.now × (first ≡ (near_two service.m service.costs.now set j).first) }
+    ensures { result ≡ (near_two service.entry.m service.entry.costs.now set j).second }
 {
     let mut least = NO_FACILITY;
-    let mut t = 0;
-    while t < count {
-        let x = packed_at(service, m, n, j, list[t] as usize);
+    for i in list {
+        let x = packed_at(service, j, *i as usize);
         let other = if x == first { NO_FACILITY } else { x };
-        if other < least {
-            least = other;
-        }
-        t += 1;
+        least = other.min(least);
     }
     least
 }
 
 // Client j's two nearest after a move, from those before it: where one of them went, the other is the nearest and only the second is sought.
 pub(crate) fn near_after(
-    service: &[u32],
-    m: usize,
-    n: usize,
+    service: Service,
     j: usize,
     set: u32,
     next: u32,
@@ -139,10 +114,9 @@ pub(crate) fn near_after(
     went: usize,
     arrived: u64,
     list: &[u8],
-    count: usize,
 ) -> Near
-    requires { Moving m n service.now j set next near came went arrived list.now count }
-    ensures { result ≡ near_of (near_two m service.now next j) }
+    requires { Moving service.m service.n service.costs.now j set next near came went arrived list.now }
+    ensures { result ≡ near_of (near_two service.entry.m service.entry.costs.now next j) }
 {
     let with_arrival = inserted(arrived, near);
     if goes_to(with_arrival, went) {
@@ -153,7 +127,7 @@ pub(crate) fn near_after(
         };
         return Near {
             first,
-            second: second_of(service, m, n, j, next, first, list, count),
+            second: second_of(service, j, next, first, list),
         };
     }
     with_arrival

@@ -9,6 +9,8 @@ use crate::near::Near;
 use rows::{shift, shift_in, shift_out};
 use tables::MOST_FACILITIES;
 
+// These four take the costs and counts one by one, and no `Service`: with that, plans took 2 to 5 in a hundred longer.
+
 // Client j's second nearest is now this one.
 pub(crate) fn set_second(
     service: &[u32],

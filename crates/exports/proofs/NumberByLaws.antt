@@ -9,9 +9,13 @@ use Rattle.questions.specs.Sheet.{instance_of}
 use Rattle.questions.specs.Reading.{reading}
 use Rattle.tariff.specs.declared.TariffChoice.{TariffChoice}
 use Rattle.distances.specs.Priced.{sheet_by, reading_by, OnHauls}
-use Rattle.price.specs.Pricing.{Plan, planned_answer, answer, area_after, OfPlan, pricing}
+use Rattle.refusal.specs.Numbers.{answer_of}
+use Rattle.price.specs.Pricing.{Plan, answer, area_after, OfPlan, pricing}
 use Rattle.price_by.specs.PricingBy.{pricing_by}
-use Rattle.price.specs.declared.Planned.{Planned}
+use Rattle.std.specs.Prelude.{Result}
+use Rattle.refusal.specs.declared.Refusal.{Refusal}
+use Rattle.refusal.specs.Numbers.{answer_of}
+use Rattle.price.specs.declared.Written.{Written}
 use Rattle.price.proofs.OfPlanLaws.{priced_set}
 use Rattle.price_by.proofs.PricingByLaws.{priced_on_hauls}
 use Rattle.search.specs.Planning.{open_planning, limited_planning}
@@ -62,7 +66,7 @@ module _ (choice : TariffChoice) (tariff s : List ℕ) where
 
   -- ---- what is promised of a plan is promised of the bytes that the number tells
 
-  pub of_written_by : (r : ℕ) (area : List ℕ) (P : List ℕ → ℕ → Type 0) (p : Planned) → KeepsBits (planned_answer p) → r ≡ result_number (planned_answer p)
+  pub of_written_by : (r : ℕ) (area : List ℕ) (P : List ℕ → ℕ → Type 0) (p : Result Written Refusal) → KeepsBits (answer_of p) → r ≡ result_number (answer_of p)
       → OnHauls (sheet_by choice tariff s) (λ h. OfPlan p area (P h)) → OnHauls (sheet_by choice tariff s) (λ h. OfWritten r area (P h))
   of_written_by r area P p within e made h is = of_written r area (P h) p within e (made h is)
 

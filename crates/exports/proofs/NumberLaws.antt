@@ -10,7 +10,8 @@ use Rattle.model.specs.Plans.{open_start, open_search, limited_start, limited_se
 use Rattle.model.proofs.CountLaws.{count_le}
 use Rattle.model.specs.Answers.{Answer, accepted, refused, ask}
 use Rattle.questions.specs.Sheet.{yards, farm_byte, instance_of}
-use Rattle.questions.specs.Reading.{Counts, counts, reading}
+use Rattle.questions.specs.declared.Counts.{Counts}
+use Rattle.questions.specs.Reading.{counts, reading}
 use Rattle.questions.proofs.ReadingLaws.{refused_by}
 use Rattle.questions.proofs.AcceptedLaws.{WithinBounds, instance_is, door, accepts}
 use Rattle.plan_area.specs.Plan.{question9}

@@ -20,7 +20,13 @@ ghost use Rattle.floor_by.specs.OfferingBy.{offering_by};
 ghost use Rattle.search.specs.Planning.{open_planning, limited_planning};
 ghost use Rattle.by_tariff.specs.PlanningBy.{open_planning_by, limited_planning_by};
 ghost use Rattle.search.specs.Promises.{NoOpenMove, BoundedByRivals, OfSize, NoLimitedMove, BoundedByRivalsOf};
-ghost use Rattle.numbers.specs.Numbers.{counts_number, result_number, second_number, change_number, sum_number, choice_of, OfWritten, DifferenceTold, UnderAllTold};
+ghost use Rattle.refusal.specs.Numbers.{number_of};
+ghost use Rattle.shut.specs.Shutting.{second_answer};
+ghost use Rattle.numbers.specs.Numbers.{second_by, counts_number, result_number, second_number, change_number, sum_number, choice_of, OfWritten, DifferenceTold, UnderAllTold};
+
+use nearest::Nearest;
+use numbers::SecondYard;
+use refusal::Refusal;
 
 // Asks questions 1 to 4, 10, 5 and 6. Bits 8 to 15: the yards; bits 16 to 23: the farms.
 #[unsafe(no_mangle)]
@@ -173,7 +179,14 @@ pub extern "C" fn planner_second(
     ensures { result ≡ second_number (seconding_by (choice_of hauls) tariff.now sheet.now set farm) }
 {
     let second = shut_by::second_by(sheet, numbers::choice_of(hauls), tariff, set, farm);
-    numbers::second_number(second)
+    numbers::second_number(second_parts(second))
+}
+
+// The same answer in the parts of its number.
+fn second_parts(second: Result<Option<Nearest>, Refusal>) -> Result<SecondYard, Refusal>
+    ensures { second_by number_of result ≡ second_answer second }
+{
+    Ok(SecondYard::from(second?))
 }
 
 // What shutting a yard of the set changes. Bit 8: whether it is below zero; bits 16 to 63: its size. The difference is that of full costs on the sheet of

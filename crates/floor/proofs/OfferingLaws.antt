@@ -17,8 +17,10 @@ use Rattle.record.specs.Records.{record_at, amount_at}
 use Rattle.questions.specs.Sheet.{instance_by, instance_of}
 use Rattle.questions.specs.Reading.{counts, reading}
 use Rattle.questions.proofs.AcceptedLaws.{instance_is, accepts, facilities_are}
-use Rattle.floor.specs.declared.LowerBound.{LowerBound}
-use Rattle.floor.specs.Offering.{bound_answer, is_offer, offer_in_place, question15, question16, offering, UnderAll}
+use Rattle.std.specs.Prelude.{Result, Ok}
+use Rattle.refusal.specs.declared.Refusal.{Refusal}
+use Rattle.refusal.specs.Numbers.{answer_of}
+use Rattle.floor.specs.Offering.{is_offer, offer_in_place, question15, question16, offering, UnderAll}
 
 -- ---- question 15
 
@@ -90,11 +92,11 @@ module _ (s offers : List ℕ) where
       }
 
   -- "no more than the full cost of any non-empty set"
-  pub under_all : (r : LowerBound) → bound_answer r ≡ offering s offers → UnderAll s r
+  pub under_all : (r : Result ℕ Refusal) → answer_of r ≡ offering s offers → UnderAll s r
   under_all r h sum e rival some =
-      let p = passed sum (sym h ∙ ap bound_answer e) in
+      let p = passed sum (sym h ∙ ap answer_of e) in
       rw p.sum_is (floor_under (instance_of s) (amount_at offers) rival (rw (facilities_are s) some) p.not_overbid)
 
   -- both clauses, from the answer
-  pub answers : (r : LowerBound) → bound_answer r ≡ offering s offers → (bound_answer r ≡ offering s offers) × UnderAll s r
+  pub answers : (r : Result ℕ Refusal) → answer_of r ≡ offering s offers → (answer_of r ≡ offering s offers) × UnderAll s r
   answers r h = (h, under_all r h)

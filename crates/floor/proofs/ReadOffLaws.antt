@@ -22,14 +22,15 @@ use Rattle.model.proofs.FloorLaws.{feasible_when, not_feasible, overbid, floor_u
 use Rattle.record.specs.Records.{record_of, record_at, amount_at, amount_end}
 use Rattle.record.proofs.RecordLaws.{record_is}
 use Rattle.questions.specs.Sheet.{yards, fee, farm_byte, instance_by, instance_of}
-use Rattle.questions.specs.Reading.{Counts, counts, reading}
+use Rattle.questions.specs.declared.Counts.{Counts}
+use Rattle.questions.specs.Reading.{counts, reading}
 use Rattle.questions.proofs.ReadingLaws.{refused_by}
 use Rattle.questions.proofs.AcceptedLaws.{WithinBounds, door, facilities_are, facilities_read}
 use Rattle.questions.proofs.CostBounds.{total_fits}
 use Rattle.plan_area.specs.Plan.{question9}
 use Rattle.price.specs.Pricing.{Plan, plan, question8, pricing}
 use Rattle.price.proofs.PricingLaws.{marked}
-use Rattle.floor.specs.declared.LowerBound.TheVariants.{Cents}
+use Rattle.std.specs.Prelude.{Ok}
 use Rattle.floor.specs.Offering.{offer_kind, is_offer, offer_in_place, question15, question16, offering, UnderAll}
 use Rattle.floor.proofs.OfferingLaws.{passed}
 
@@ -95,7 +96,7 @@ sum_fits s offers sum e =
 
 -- ---- from the promise
 
-module _ (s : List ℕ) (sum : ℕ) (under : UnderAll s (Cents sum)) where
+module _ (s : List ℕ) (sum : ℕ) (under : UnderAll s (Ok sum)) where
   -- where pricing writes a plan, its total is no lower
   pub under_prices : (set room : ℕ) (p : Plan) → pricing s set room ≡ accepted p
       → (total : ℕ) × (p ≡ plan (instance_of s) (farm_byte s (yards s)) set total 0) × (sum ≤ total)

@@ -1,5 +1,5 @@
 -- A floor under all lists (document 02, paper 10): what the call answers to offers.
-use Rattle.std.specs.Prelude.{ℕ, ◌*◌, ◌≤◌, ◌<◌, ◌≡◌, Bool, true, ◌&&◌, List, length, eqb}
+use Rattle.std.specs.Prelude.{ℕ, ◌*◌, ◌≤◌, ◌<◌, ◌≡◌, Bool, true, ◌&&◌, List, length, eqb, Result, Ok}
 use Rattle.model.specs.Loops.{all_below}
 use Rattle.model.specs.Least.{any}
 use Rattle.model.specs.Instance.{total_cost}
@@ -10,13 +10,7 @@ use Rattle.record.specs.Records.{records, record_of, record_at, amount_at}
 use Rattle.questions.specs.Bounds.{yard_kind}
 use Rattle.questions.specs.Sheet.{yards, instance_of}
 use Rattle.questions.specs.Reading.{reading}
-use Rattle.floor.specs.declared.LowerBound.{LowerBound}
-use Rattle.floor.specs.declared.LowerBound.TheVariants.{Cents, Refused}
-
--- document 01's answer in each case of the code's enum
-abbrev pub bound_answer : LowerBound → Answer ℕ
-bound_answer (Cents sum) = accepted sum
-bound_answer (Refused k) = refused k
+use Rattle.refusal.specs.declared.Refusal.{Refusal}
 
 -- "records of kind 56 hex by farm"
 abbrev pub offer_kind : ℕ
@@ -44,9 +38,9 @@ offering s offers =
     (accepted (floor (instance_of s) (amount_at offers)))))
 
 -- "which is no more than the full cost of any non-empty set"
-abbrev pub UnderAll : List ℕ → LowerBound → Type 0
+abbrev pub UnderAll : List ℕ → Result ℕ Refusal → Type 0
 UnderAll s r =
-    (sum : ℕ) → r ≡ Cents sum → (rival : ℕ → Bool) → any (yards s) rival ≡ true → sum ≤ total_cost (instance_of s) rival
+    (sum : ℕ) → r ≡ Ok sum → (rival : ℕ → Bool) → any (yards s) rival ≡ true → sum ≤ total_cost (instance_of s) rival
 
 -- For limited lists "a caller changes the fees of a copy of the sheet and asks the same call": t is s with every fee set to one amount.
 pub record WithFees (amount : ℕ) (s t : List ℕ) : Type 0 where

@@ -1,5 +1,5 @@
 // What the yards are offered: for each the sum over the farms of loads times the excess of amount over haul.
-ghost use Rattle.std.specs.Prelude.{◌≡◌, ◌+◌, ◌-◌, ◌*◌, ◌≤◌, ◌<◌, length};
+ghost use Rattle.std.specs.Prelude.{◌≡◌, ◌+◌, ◌*◌, ◌≤◌, ◌<◌, length};
 ghost use Rattle.model.specs.Loops.{all_below, most_term};
 ghost use Rattle.model.specs.Floor.{floor};
 ghost use Rattle.record.specs.Records.{amount_at};
@@ -16,10 +16,8 @@ pub(crate) fn add_offers(sheet: &[u8], offers: &[u8], m: usize, n: usize, excess
     ensures excess { Offered sheet.now m offers.now n excess.new }
 {
     let mut sum = 0;
-    let mut farm = 0;
-    while farm < n {
+    for farm in 0..n {
         sum += add_offer(sheet, offers, m, n, farm, excess);
-        farm += 1;
     }
     sum
 }
@@ -41,22 +39,13 @@ fn add_offer(
     let hauls = stretch::farm_stretch(sheet, m, farm);
     let loads = questions::loads_of(Record::at(hauls, 0).byte3);
     let amount = Record::at(offers, farm).amount;
-    let mut yard = 0;
-    while yard < m {
+    for yard in 0..m {
         // of the eight bytes of one record the compiler knows that they hold it
         let at = Record::LEN * yard;
         let haul = Record::at(&hauls[at..at + Record::LEN], 0).amount;
-        excess[yard] += loads * (above(amount, haul) as u64);
-        yard += 1;
+        excess[yard] += loads * (amount.saturating_sub(haul) as u64);
     }
     loads * (amount as u64)
-}
-
-// What an amount is above a haul, 0 where it is not.
-fn above(amount: u32, haul: u32) -> u32
-    ensures { result ≡ amount - haul }
-{
-    if haul < amount { amount - haul } else { 0 }
 }
 
 // Is every yard's sum at most its fee?
@@ -64,13 +53,11 @@ pub(crate) fn fees_cover(sheet: &[u8], m: usize, excess: &[u64]) -> bool
     requires { (8 * m ≤ length sheet.now) × (m ≤ length excess.now) }
     ensures { result ≡ all_below m (covered_at sheet.now excess.now) }
 {
-    let mut yard = 0;
-    while yard < m {
+    for yard in 0..m {
         let fee = Record::at(sheet, yard).amount;
         if (fee as u64) < excess[yard] {
             return false;
         }
-        yard += 1;
     }
     true
 }

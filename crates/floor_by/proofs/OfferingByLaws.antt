@@ -9,8 +9,10 @@ use Rattle.questions.proofs.ReadingLaws.{reading_loads}
 use Rattle.tariff.specs.declared.TariffChoice.{TariffChoice}
 use Rattle.distances.specs.Priced.{sheet_by, OnHauls}
 use Rattle.distances.proofs.CallLaws.{FormFirst}
-use Rattle.floor.specs.declared.LowerBound.{LowerBound}
-use Rattle.floor.specs.Offering.{bound_answer, offering, UnderAll}
+use Rattle.std.specs.Prelude.{Result}
+use Rattle.refusal.specs.declared.Refusal.{Refusal}
+use Rattle.refusal.specs.Numbers.{answer_of}
+use Rattle.floor.specs.Offering.{offering, UnderAll}
 use Rattle.floor.proofs.OfferingLaws.{unread, under_all}
 use Rattle.floor_by.specs.OfferingBy.{offering_by}
 
@@ -24,7 +26,7 @@ module _ (choice : TariffChoice) (tariff s offers : List ℕ) where
   floor_on_hauls sum e = passed_first (sheet_by choice tariff s) (λ h. offering h offers) sum e
 
   -- both clauses, from the answer
-  pub answers_by : (r : LowerBound) → bound_answer r ≡ after (sheet_by choice tariff s) (λ h. offering h offers)
-      → (bound_answer r ≡ offering_by choice tariff s offers) × OnHauls (sheet_by choice tariff s) (λ h. UnderAll h r)
+  pub answers_by : (r : Result ℕ Refusal) → answer_of r ≡ after (sheet_by choice tariff s) (λ h. offering h offers)
+      → (answer_of r ≡ offering_by choice tariff s offers) × OnHauls (sheet_by choice tariff s) (λ h. UnderAll h r)
   unfolding offering_by
   answers_by r e = (e, (λ h is. under_all h offers r (e ∙ ap (λ a. after a (λ h. offering h offers)) is)))

@@ -1,4 +1,3 @@
-pub mod SignedLaws
 pub mod TableLaws
 pub mod PassLaws
 pub mod RoundedLaws

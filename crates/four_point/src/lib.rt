@@ -7,6 +7,7 @@
 
 mod costs;
 mod pairs;
+mod pass;
 mod units;
 
 ghost use Rattle.std.specs.Prelude.{◌≡◌};

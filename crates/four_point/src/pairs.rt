@@ -21,14 +21,7 @@ fn every_b(table: &[u32], units: &[u16], m: usize, n: usize, a: usize) -> bool
     requires { Rounded m n table.now units.now × (a < m) }
     ensures { result ≡ row_keeps table.now n a }
 {
-    let mut b = 0;
-    while b < a {
-        if !keeps(table, units, m, n, a, b) {
-            return false;
-        }
-        b += 1;
-    }
-    true
+    (0..a).all(|b| keeps(table, units, m, n, a, b))
 }
 
 // The rule of each two facilities.
@@ -36,12 +29,5 @@ pub(crate) fn every_pair(table: &[u32], units: &[u16], m: usize, n: usize) -> bo
     requires { Rounded m n table.now units.now }
     ensures { result ≡ all_below m (row_keeps table.now n) }
 {
-    let mut a = 0;
-    while a < m {
-        if !every_b(table, units, m, n, a) {
-            return false;
-        }
-        a += 1;
-    }
-    true
+    (0..m).all(|a| every_b(table, units, m, n, a))
 }

@@ -4,6 +4,7 @@ pub mod LoopLaws
 pub mod PlaceLaws
 pub mod PassingLaws
 pub mod SumLaws
+pub mod RangeLaws
 pub mod TestSetLaws
 pub mod CountLaws
 pub mod ListingLaws

@@ -5,7 +5,7 @@ use native.Mathlib.Omega.{arith}
 use native.Mathlib.Decide.{dec_lt}
 use mathlib.Core.Path.{◌≡◌, refl, sym, ap, ◌∙◌}
 use mathlib.Core.Logic.{◌⊎◌, inl, inr}
-use mathlib.Core.Bool.{Bool, true, false, ◌&&◌, ◌||◌}
+use mathlib.Core.Bool.{Bool, true, false, ◌&&◌, ◌||◌, and-false}
 use mathlib.Core.List.{List}
 use borrow.Author.Tests.{lt-ltb, le-ltb, eq-eqb, ne_eqb}
 use lib.Dec.{eqb, ltb}
@@ -14,7 +14,7 @@ use Rattle.model.specs.Least.{any}
 use Rattle.model.specs.Sets.{member, plus, minus, without}
 use Rattle.model.specs.Instance.{nearest}
 use Rattle.model.specs.Closing.{others, second, second_cost}
-use Rattle.model.proofs.Bools.{cases, clash, or_left, or_right, and_both, Eq?, same, diff, test, Lt?, less, more, test<}
+use Rattle.model.proofs.Bools.{cases, clash, fails, or_left, or_right, and_both, Eq?, same, diff, test, Lt?, less, more, test<}
 use Rattle.model.proofs.SetLaws.{member_without}
 use Rattle.model.proofs.LeastLaws.{any_of, any_cong, any_none}
 use Rattle.model.proofs.LeastThenLaws.{LeastThen, then_agree, then_only, then_taken, then_kept}
@@ -23,7 +23,7 @@ use Rattle.sets.specs.Members.{rising_below, listed}
 use Rattle.sets.proofs.ListedLaws.{listed_all, listed_up_to, none_yet, at_end}
 use Rattle.record.specs.Records.{amount_at, amount_end}
 use Rattle.nearest.specs.declared.Choice.{Choice}
-use Rattle.nearest.specs.Nearest.{near, yards_on, one_farm, nearest_in, nearest_on, second_on}
+use Rattle.nearest.specs.Nearest.{Nearest, near, yards_on, one_farm, nearest_in, nearest_on, second_on}
 use Rattle.nearest.specs.Choices.{haul_step, no_yard, last_key, choice, no_choice, choice_of, AmountsFit, nearer}
 
 -- ---- the order of two choices
@@ -87,6 +87,14 @@ module _ (fees hauls : List ℕ) where
   second_after set first e =
       near_cong (member (without set first)) (others (one_farm fees hauls) (member set) 0)
       (λ i l. member_without set first i ∙ ap (λ f. minus (member set) f i) e)
+
+  -- where no yard of the set is found, no second one is
+  pub second_none : (set : ℕ) → near false 0 0 ≡ nearest_on fees hauls set → near false 0 0 ≡ second_on fees hauls set
+  unfolding second_on second second_cost nearest_in one_farm
+  second_none set e =
+      let none : (i : ℕ) → i < m → member set i ≡ false =
+      λ i l. fails (λ has. clash (any_of m i (member set) l has) (sym (ap (λ (r : Nearest). r.found) e))) in
+      e ∙ near_cong (member set) (others (one_farm fees hauls) (member set) 0) (λ i l. none i l ∙ sym (rw (none i l) (and-false _)))
 
   -- ---- the loop over the listed yards
 

@@ -1,2 +1,3 @@
 -- ChoiceLaws: how the loop over the listed yards keeps the nearest.
 pub mod ChoiceLaws
+pub mod TellLaws

@@ -1,15 +1,30 @@
 -- The nearest open yard of a farm (document 02, paper 1): the smallest haul, among equals the lower fee, and only then the lower number. And
 -- its "second cheapest open yard .. with the haul there, ties as in paper 1, or none where one is open" (paper 5).
-use Rattle.std.specs.Prelude.{ℕ, min, Bool, List}
+use Rattle.std.specs.Prelude.{ℕ, min, Bool, true, false, List, Option, Some, None}
 use Rattle.model.specs.Least.{any}
 use Rattle.model.specs.Sets.{member}
 use Rattle.model.specs.Instance.{Instance, nearest, assigned}
 use Rattle.model.specs.Closing.{others, second, second_cost}
 use Rattle.record.specs.Records.{records, amount_at}
-use Rattle.nearest.specs.declared.Nearest.{Nearest}
+use Rattle.nearest.specs.declared.Nearest as declared
+
+-- a yard and the haul there; both 0 where none is found
+pub record Nearest : Type 0 where
+  pub found : Bool
+  pub yard : ℕ
+  pub haul : ℕ
 
 abbrev pub near : Bool → ℕ → ℕ → Nearest
 near found yard haul = record { found = found; yard = yard; haul = haul }
+
+-- the same in each case of the code's option
+abbrev pub told : Option declared.Nearest → Nearest
+told (Some nearest) = near true nearest.yard nearest.haul
+told None = near false 0 0
+
+-- what stands in the place of a nearest yard where there is none
+abbrev pub nowhere : declared.Nearest
+nowhere = record { yard = 0; haul = 0 }
 
 -- the yards that have a record in both
 abbrev pub yards_on : List ℕ → List ℕ → ℕ

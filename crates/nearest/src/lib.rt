@@ -3,9 +3,9 @@
 
 #![tactic(auto)]
 
-ghost use Rattle.std.specs.Prelude.{◌≡◌, ◌<◌, min};
+ghost use Rattle.std.specs.Prelude.{◌≡◌, ◌<◌};
 ghost use Rattle.sets.specs.Members.{listed};
-ghost use Rattle.nearest.specs.Nearest.{nearest_in, nearest_on, second_on};
+ghost use Rattle.nearest.specs.Nearest.{told, nearest_in, nearest_on, second_on};
 ghost use Rattle.nearest.specs.Choices.{no_yard, choice_of, AmountsFit, nearer};
 
 use record::Record;
@@ -18,16 +18,19 @@ const NO_YARD: usize = 256;
 
 const LAST_KEY: u64 = 18446744073709551615;
 
-// A yard and the haul there; both 0 where none is found.
+// A yard and the haul there.
 #[derive(Clone, Copy)]
 pub struct Nearest {
-    pub found: bool,
     pub yard: usize,
     pub haul: u32,
 }
 
+// What stands in the place of a nearest yard where there is none.
+pub const NOWHERE: Nearest = Nearest { yard: 0, haul: 0 };
+
 // A yard with its key, the haul and the fee in one number: of two keys the lesser has the smaller haul or, among equals, the lower
-// fee.
+// fee. The choice of none has the last of keys.
+// Stays without an Option: with one, and a derived order, a price took 1.15 times as long, and an open plan 1.09 times.
 #[derive(Clone, Copy)]
 struct Choice {
     yard: usize,
@@ -36,8 +39,8 @@ struct Choice {
 
 // The nearest yard of the set on a farm's stretch of the sheet, by the fees in the yards' records. The sheet itself will do for
 // these: its first records are the yards'. The yards are those that have a record in both.
-pub fn nearest_yard(fees: &[u8], hauls: &[u8], set: u32) -> Nearest
-    ensures { result ≡ nearest_on fees.now hauls.now set }
+pub fn nearest_yard(fees: &[u8], hauls: &[u8], set: u32) -> Option<Nearest>
+    ensures { told result ≡ nearest_on fees.now hauls.now set }
 {
     let open = sets::members_of(set);
     let list = open.list;
@@ -46,38 +49,31 @@ pub fn nearest_yard(fees: &[u8], hauls: &[u8], set: u32) -> Nearest
 }
 
 // The second nearest, in the same order.
-pub fn second_yard(fees: &[u8], hauls: &[u8], set: u32) -> Nearest
-    ensures { result ≡ second_on fees.now hauls.now set }
+pub fn second_yard(fees: &[u8], hauls: &[u8], set: u32) -> Option<Nearest>
+    ensures { told result ≡ second_on fees.now hauls.now set }
 {
-    let first = nearest_yard(fees, hauls, set);
+    let first = nearest_yard(fees, hauls, set)?;
     nearest_yard(fees, hauls, sets::removed(set, first.yard))
 }
 
 // The nearest of the yards listed, in whatever order and however often, for a caller that asks it of many farms.
-pub fn nearest_listed(fees: &[u8], hauls: &[u8], yards: &[u8]) -> Nearest
-    ensures { result ≡ nearest_in fees.now hauls.now (listed yards.now) }
+pub fn nearest_listed(fees: &[u8], hauls: &[u8], yards: &[u8]) -> Option<Nearest>
+    ensures { told result ≡ nearest_in fees.now hauls.now (listed yards.now) }
 {
     let mut best = Choice {
         yard: NO_YARD,
         key: LAST_KEY,
     };
-    let mut t = 0;
-    while t < yards.len() {
-        best = nearer_of(best, choice_of(fees, hauls, yards[t]));
-        t += 1;
+    for yard in yards {
+        best = nearer_of(best, choice_of(fees, hauls, *yard));
     }
     if best.yard == NO_YARD {
-        return Nearest {
-            found: false,
-            yard: 0,
-            haul: 0,
-        };
+        return None;
     }
-    Nearest {
-        found: true,
+    Some(Nearest {
         yard: best.yard,
         haul: (best.key / HAUL_STEP) as u32,
-    }
+    })
 }
 
 // The choice of a yard, or of none where the yard has not both records.
@@ -86,7 +82,7 @@ fn choice_of(fees: &[u8], hauls: &[u8], yard: u8) -> Choice
     ensures small { (yard < no_yard) × AmountsFit fees.now hauls.now yard }
 {
     let at = yard as usize;
-    if lesser(fees.len(), hauls.len()) / Record::LEN <= at {
+    if fees.len().min(hauls.len()) / Record::LEN <= at {
         return Choice {
             yard: NO_YARD,
             key: LAST_KEY,
@@ -102,6 +98,7 @@ fn choice_of(fees: &[u8], hauls: &[u8], yard: u8) -> Choice
 }
 
 // The nearer of two, the lower number among equals.
+// Stays an order by hand: with a derived one, and an Option, a price took 1.15 times as long.
 fn nearer_of(a: Choice, b: Choice) -> Choice
     ensures { result ≡ nearer a b }
 {
@@ -110,10 +107,4 @@ fn nearer_of(a: Choice, b: Choice) -> Choice
         return if b.yard < a.yard { b } else { a };
     }
     if b.key < a.key { b } else { a }
-}
-
-fn lesser(a: usize, b: usize) -> usize
-    ensures { result ≡ min a b }
-{
-    if a < b { a } else { b }
 }

@@ -8,21 +8,18 @@ use borrow.Author.Tests.{eq-eqb, ne_eqb}
 use lib.ListN.{length}
 use lib.Dec.{eqb}
 use lib.IntN.{ℤ, pos, negsuc, neg_ℤ}
+use Rattle.std.specs.Prelude.{Result, Ok, Err}
 use Rattle.model.specs.Answers.{Answer, accepted, refused}
-use Rattle.questions.specs.Reading.{Counts}
-use Rattle.nearest.specs.declared.Nearest.{Nearest}
-use Rattle.nearest.specs.Nearest.{near}
+use Rattle.questions.specs.declared.Counts.{Counts}
+use Rattle.nearest.specs.Nearest.{Nearest, near}
 use Rattle.plan_area.specs.Plan.{plan_set}
-use Rattle.price.specs.Pricing.{Result, result, Plan, planned_answer, answer, area_after, OfPlan}
-use Rattle.price.specs.declared.Planned.{Planned}
-use Rattle.price.specs.declared.Planned.TheVariants.{Written, Refused}
+use Rattle.price.specs.declared.Written.{Written}
+use Rattle.refusal.specs.declared.Refusal.{Refusal}
+use Rattle.refusal.specs.Numbers.{answer_of}
+use Rattle.price.specs.Pricing.{written, Plan, answer, area_after, OfPlan}
 use Rattle.price.proofs.OfPlanLaws.{PlanOf, set_read_off}
-use Rattle.shut.specs.declared.Change.{Change}
-use Rattle.shut.specs.declared.Change.TheVariants as change
-use Rattle.shut.specs.Shutting.{shut_answer, IsDifference}
-use Rattle.floor.specs.declared.LowerBound.{LowerBound}
-use Rattle.floor.specs.declared.LowerBound.TheVariants as lower_bound
-use Rattle.floor.specs.Offering.{bound_answer, UnderAll}
+use Rattle.shut.specs.Shutting.{IsDifference}
+use Rattle.floor.specs.Offering.{UnderAll}
 use Rattle.numbers.specs.Numbers.{counts_number, result_number, second_number, change_number, sum_number, refusal, yards_read, farms_read, bytes_written, moves_made, second_found, yard_told, haul_told, change_told, sum_told, OfWritten, DifferenceTold, UnderAllTold, KeepsBits, CountsKeepBits, SecondKeepsBits, ChangeKeepsBits, SumKeepsBits}
 
 -- ---- reading: no refusal, and the counts, or the refusal number, which is not 0
@@ -39,13 +36,13 @@ counts_said (refused k) (some, small) = (omega arith, some)
 
 -- ---- pricing and the plans: no refusal, the bytes and the moves, or the refusal number
 
-abbrev pub Said : Answer Result → Type 0
+abbrev pub Said : Answer Written → Type 0
 Said (accepted r) =
     (refusal (result_number (accepted r)) ≡ 0) × (bytes_written (result_number (accepted r)) ≡ r.bytes)
     × (moves_made (result_number (accepted r)) ≡ r.moves)
 Said (refused k) = (refusal (result_number (refused k)) ≡ k) × (1 ≤ k)
 
-pub said : (a : Answer Result) → KeepsBits a → Said a
+pub said : (a : Answer Written) → KeepsBits a → Said a
 unfolding refusal bytes_written moves_made
 said (accepted r) (few, small) = (omega arith, omega arith, omega arith)
 said (refused k) (some, small) = (omega arith, some)
@@ -107,12 +104,12 @@ sum_said (refused k) (some, small) = (omega arith, some)
 -- ---- what is promised of a plan is promised of the bytes that the number tells
 
 module _ (r : ℕ) (area : List ℕ) (P : ℕ → Type 0) where
-  pub of_written : (p : Planned) → KeepsBits (planned_answer p) → r ≡ result_number (planned_answer p) → OfPlan p area P → OfWritten r area P
-  of_written (Written bytes moves) within e h accepts =
-      let told : bytes_written r ≡ bytes = ap bytes_written e ∙ (said (planned_answer (Written bytes moves)) within).1 in
-      subst (λ b. P (plan_set area b)) (sym told) (h bytes moves refl)
-  of_written (Refused k) within e h accepts =
-      absurd (omega (arith, sym (said (planned_answer (Refused k)) within).0 ∙ sym (ap refusal e) ∙ accepts, within.0))
+  pub of_written : (p : Result Written Refusal) → KeepsBits (answer_of p) → r ≡ result_number (answer_of p) → OfPlan p area P → OfWritten r area P
+  of_written (Ok w) within e h accepts =
+      let told : bytes_written r ≡ w.bytes = ap bytes_written e ∙ (said (answer_of (Ok w)) within).1 in
+      subst (λ b. P (plan_set area b)) (sym told) (h w refl)
+  of_written (Err refused_by) within e h accepts =
+      absurd (omega (arith, sym (said (answer_of (Err refused_by)) within).0 ∙ sym (ap refusal e) ∙ accepts, within.0))
 
 -- ---- and is used: what is promised by the number of an accepted call holds of its plan's own set
 
@@ -120,24 +117,24 @@ module _ (outcome : Answer Plan) (p : Plan) (e : outcome ≡ accepted p) (bits :
   pub written_of : (set : ℕ) → PlanOf set p → OfWritten (result_number (answer outcome)) (area_after outcome area) P → P set
   unfolding answer
   written_of set f h =
-      let is : answer outcome ≡ accepted (result (length p.bytes) p.moves) = ap answer e in
-      let told = said (accepted (result (length p.bytes) p.moves)) (subst KeepsBits is bits) in
+      let is : answer outcome ≡ accepted (written (length p.bytes) p.moves) = ap answer e in
+      let told = said (accepted (written (length p.bytes) p.moves)) (subst KeepsBits is bits) in
       subst P (ap (plan_set (area_after outcome area)) (ap (λ a. bytes_written (result_number a)) is ∙ told.1) ∙ set_read_off outcome p set e f area)
       (h (ap (λ a. refusal (result_number a)) is ∙ told.0))
 
 -- ---- what is promised of a change is promised of the one that the number tells
 
-pub difference_told : (s : List ℕ) (set yard r : ℕ) (c : Change) → ChangeKeepsBits (shut_answer c) → r ≡ change_number (shut_answer c) → IsDifference s set yard c
+pub difference_told : (s : List ℕ) (set yard r : ℕ) (c : Result ℤ Refusal) → ChangeKeepsBits (answer_of c) → r ≡ change_number (answer_of c) → IsDifference s set yard c
     → DifferenceTold s set yard r
-difference_told s set yard r (change.Cents cents) within e h accepts =
+difference_told s set yard r (Ok cents) within e h accepts =
     ap change_told e ∙ (change_said (accepted cents) within).1 ∙ h cents refl
-difference_told s set yard r (change.Refused k) within e h accepts =
-    absurd (omega (arith, sym (change_said (refused k) within).0 ∙ sym (ap refusal e) ∙ accepts, within.0))
+difference_told s set yard r (Err refused_by) within e h accepts =
+    absurd (omega (arith, sym (change_said (answer_of (Err refused_by)) within).0 ∙ sym (ap refusal e) ∙ accepts, within.0))
 
 -- ---- and of a sum
 
-pub under_told : (s : List ℕ) (r : ℕ) (b : LowerBound) → SumKeepsBits (bound_answer b) → r ≡ sum_number (bound_answer b) → UnderAll s b → UnderAllTold s r
-under_told s r (lower_bound.Cents sum) within e under accepts rival some =
+pub under_told : (s : List ℕ) (r : ℕ) (b : Result ℕ Refusal) → SumKeepsBits (answer_of b) → r ≡ sum_number (answer_of b) → UnderAll s b → UnderAllTold s r
+under_told s r (Ok sum) within e under accepts rival some =
     rw (ap sum_told e ∙ (sum_said (accepted sum) within).1) (under sum refl rival some)
-under_told s r (lower_bound.Refused k) within e under accepts rival some =
-    absurd (omega (arith, sym (sum_said (refused k) within).0 ∙ sym (ap refusal e) ∙ accepts, within.0))
+under_told s r (Err refused_by) within e under accepts rival some =
+    absurd (omega (arith, sym (sum_said (answer_of (Err refused_by)) within).0 ∙ sym (ap refusal e) ∙ accepts, within.0))

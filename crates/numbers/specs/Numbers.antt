@@ -1,17 +1,19 @@
 -- The answers of the exported calls as numbers of 64 bits, and how a caller reads them again. A part is cut to its bits, which the answer of a call keeps to.
-use Rattle.std.specs.Prelude.{ℕ, ◌+◌, ◌*◌, ◌/◌, ◌%◌, ◌^◌, ◌≤◌, ◌<◌, ◌≡◌, Bool, true, false, cond, List, eqb, ℤ, pos, negsuc, neg_ℤ, nat_abs, ◌-ℤ◌}
+use Rattle.std.specs.Prelude.{ℕ, ◌+◌, ◌*◌, ◌/◌, ◌%◌, ◌^◌, ◌≤◌, ◌<◌, ◌≡◌, Bool, true, false, cond, List, eqb, ℤ, pos, negsuc, neg_ℤ, nat_abs, ◌-ℤ◌, Option, Some, None, Result, Ok, Err}
 use Rattle.model.specs.Loops.{on}
 use Rattle.model.specs.Least.{any}
 use Rattle.model.specs.Sets.{member, without}
 use Rattle.model.specs.Instance.{total_cost}
 use Rattle.model.specs.Answers.{Answer, accepted, refused}
 use Rattle.questions.specs.Sheet.{yards, instance_of}
-use Rattle.questions.specs.Reading.{Counts}
+use Rattle.questions.specs.declared.Counts.{Counts}
 use Rattle.tariff.specs.declared.TariffChoice.{TariffChoice}
 use Rattle.tariff.specs.declared.TariffChoice.TheVariants.{NoTariff, HouseTariff, GivenTariff}
-use Rattle.nearest.specs.declared.Nearest.{Nearest}
+use Rattle.nearest.specs.declared.Nearest as declared
+use Rattle.nearest.specs.Nearest.{Nearest, near}
+use Rattle.numbers.specs.declared.SecondYard.{SecondYard}
 use Rattle.plan_area.specs.Plan.{plan_set}
-use Rattle.price.specs.Pricing.{Result}
+use Rattle.price.specs.declared.Written.{Written}
 
 -- Reading: from bit 8 the yards, from bit 16 the farms. A refused call gives its number alone.
 abbrev pub counts_number : Answer Counts → ℕ
@@ -19,9 +21,19 @@ counts_number (accepted c) = c.yards % 2 ^ 8 * 2 ^ 8 + c.farms % 2 ^ 8 * 2 ^ 16
 counts_number (refused k) = k
 
 -- Pricing and the plans: from bit 8 the bytes written, from bit 32 the moves. A refused call gives its number alone.
-abbrev pub result_number : Answer Result → ℕ
+abbrev pub result_number : Answer Written → ℕ
 result_number (accepted r) = r.bytes % 2 ^ 24 * 2 ^ 8 + r.moves * 2 ^ 32
 result_number (refused k) = k
+
+-- the parts of a second yard's number: whether there is one, that yard and the haul there, both 0 where there is none
+abbrev pub parts_of : Option declared.Nearest → SecondYard
+parts_of (Some second) = record { found = true; yard = second.yard; haul = second.haul }
+parts_of None = record { found = false; yard = 0; haul = 0 }
+
+-- document 01's answer for these parts, where each error has a number
+abbrev pub second_by : {E : Type 0} → (E → ℕ) → Result SecondYard E → Answer Nearest
+second_by number (Ok parts) = accepted (near parts.found parts.yard parts.haul)
+second_by number (Err e) = refused (number e)
 
 -- A farm's second yard: bit 8 whether there is one, from bit 16 that yard, from bit 32 the haul there.
 abbrev pub second_number : Answer Nearest → ℕ
@@ -101,7 +113,7 @@ UnderAllTold s r =
 
 -- ---- what an answer has to be so that a caller reads it off its number again: each part keeps to its bits, and so does a refusal number, which is not 0
 
-abbrev pub KeepsBits : Answer Result → Type 0
+abbrev pub KeepsBits : Answer Written → Type 0
 KeepsBits (accepted r) = (r.bytes < 2 ^ 24) × (r.moves < 2 ^ 32)
 KeepsBits (refused k) = (1 ≤ k) × (k < 2 ^ 8)
 

@@ -7,16 +7,13 @@
 
 ghost use Rattle.std.specs.Prelude.{◌≡◌, ◌^◌, ◌≤◌, nat_abs};
 ghost use Rattle.model.specs.Loops.{on};
-ghost use Rattle.questions.specs.Reading.{reading_answer};
-ghost use Rattle.price.specs.Pricing.{planned_answer};
-ghost use Rattle.shut.specs.Shutting.{second_answer, shut_answer};
-ghost use Rattle.floor.specs.Offering.{bound_answer};
-ghost use Rattle.numbers.specs.Numbers.{choice_of, counts_number, result_number, second_number, change_number, sum_number};
+ghost use Rattle.refusal.specs.Numbers.{answer_by};
+ghost use Rattle.numbers.specs.Numbers.{choice_of, parts_of, second_by, counts_number, result_number, second_number, change_number, sum_number};
 
-use floor::LowerBound;
-use price::Planned;
-use sheet::Reading;
-use shut::{Change, SecondYard};
+use nearest::Nearest;
+use price::Written;
+use refusal::Numbered;
+use sheet::Counts;
 use tariff::TariffChoice;
 
 // What the parts of a number count for that begin at bit 8, at bit 16, at bit 24, at bit 32, at bit 48 and at bit 56.
@@ -32,6 +29,35 @@ const BIT_48: u64 = 281474976710656;
 
 const BIT_56: u64 = 72057594037927936;
 
+// The parts of the number of a second yard: whether there is one, that yard and the haul there, both 0 where there is none.
+//
+// A flag stands beside values here and not an option: `second_number` takes any flag with any yard and haul.
+#[derive(Clone, Copy)]
+pub struct SecondYard {
+    pub found: bool,
+    pub yard: usize,
+    pub haul: u32,
+}
+
+impl From<Option<Nearest>> for SecondYard {
+    ghost from_gives = { λ second parts. parts ≡ parts_of second };
+
+    fn from(second: Option<Nearest>) -> SecondYard {
+        match second {
+            Some(Nearest { yard, haul }) => SecondYard {
+                found: true,
+                yard,
+                haul,
+            },
+            None => SecondYard {
+                found: false,
+                yard: 0,
+                haul: 0,
+            },
+        }
+    }
+}
+
 // What the amounts of haul records are, by its number.
 pub fn choice_of(hauls: u8) -> TariffChoice
     ensures { result ≡ choice_of hauls }
@@ -44,58 +70,58 @@ pub fn choice_of(hauls: u8) -> TariffChoice
 }
 
 // What reading answers. Bits 8 to 15: the yards; bits 16 to 23: the farms.
-pub fn counts_number(reading: Reading) -> u64
-    ensures { result ≡ counts_number (reading_answer reading) }
+pub fn counts_number<E: Numbered>(reading: Result<Counts, E>) -> u64
+    ensures { result ≡ counts_number (answer_by E.number reading) }
 {
     match reading {
-        Reading::Accepted { yards, farms } => {
+        Ok(Counts { yards, farms }) => {
             (yards as u64) % BIT_8 * BIT_8 + (farms as u64) % BIT_8 * BIT_16
         }
-        Reading::Refused(number) => number as u64,
+        Err(unread) => unread.number() as u64,
     }
 }
 
 // What a call that writes a plan answers. Bits 8 to 31: the bytes written; bits 32 to 63: the moves.
-pub fn plan_number(planned: Planned) -> u64
-    ensures { result ≡ result_number (planned_answer planned) }
+pub fn plan_number<E: Numbered>(planned: Result<Written, E>) -> u64
+    ensures { result ≡ result_number (answer_by E.number planned) }
 {
     match planned {
-        Planned::Written { bytes, moves } => {
+        Ok(Written { bytes, moves }) => {
             (bytes as u64) % BIT_24 * BIT_8 + (moves as u64) * BIT_32
         }
-        Planned::Refused(number) => number as u64,
+        Err(unplanned) => unplanned.number() as u64,
     }
 }
 
 // What the call for a second yard answers. Bit 8: whether there is one; bits 16 to 23: that yard; bits 32 to 63: the haul there.
-pub fn second_number(second: SecondYard) -> u64
-    ensures { result ≡ second_number (second_answer second) }
+pub fn second_number<E: Numbered>(second: Result<SecondYard, E>) -> u64
+    ensures { result ≡ second_number (second_by E.number second) }
 {
     match second {
-        SecondYard::Told { found, yard, haul } => {
+        Ok(SecondYard { found, yard, haul }) => {
             bit_8(found) + (yard as u64) % BIT_8 * BIT_16 + (haul as u64) * BIT_32
         }
-        SecondYard::Refused(number) => number as u64,
+        Err(refusal) => refusal.number() as u64,
     }
 }
 
 // What the call for a shut yard answers. Bit 8: whether the change is below zero; bits 16 to 63: its size.
-pub fn change_number(change: Change) -> u64
-    ensures { result ≡ change_number (shut_answer change) }
+pub fn change_number<E: Numbered>(change: Result<i64, E>) -> u64
+    ensures { result ≡ change_number (answer_by E.number change) }
 {
     match change {
-        Change::Cents(cents) => { bit_8(cents < 0) + size(cents) % BIT_48 * BIT_16 }
-        Change::Refused(number) => number as u64,
+        Ok(cents) => bit_8(cents < 0) + size(cents) % BIT_48 * BIT_16,
+        Err(refusal) => refusal.number() as u64,
     }
 }
 
 // What the call for a floor answers. Bits 8 to 63: the sum.
-pub fn sum_number(bound: LowerBound) -> u64
-    ensures { result ≡ sum_number (bound_answer bound) }
+pub fn sum_number<E: Numbered>(bound: Result<u64, E>) -> u64
+    ensures { result ≡ sum_number (answer_by E.number bound) }
 {
     match bound {
-        LowerBound::Cents(sum) => sum % BIT_56 * BIT_8,
-        LowerBound::Refused(number) => number as u64,
+        Ok(sum) => sum % BIT_56 * BIT_8,
+        Err(refusal) => refusal.number() as u64,
     }
 }
 

@@ -5,8 +5,8 @@
 ghost use Rattle.std.specs.Prelude.{◌≤◌, length};
 
 use plan_area::{KIND_FARM, KIND_MOVES, KIND_OPEN, KIND_TOTAL};
-use price::Planned;
 use record::Record;
+use refusal::{Numbered, Refusal};
 use sheet::{MOST_BYTES, MOST_FARMS, MOST_YARDS};
 use std::io::Read;
 
@@ -40,15 +40,15 @@ fn print_plan(rt: &impl Print, area: &[u8], bytes: usize) -> bool {
     true
 }
 
-fn print_refusal(rt: &impl Print, k: u8) -> bool {
-    println!(rt; "refused {k}").is_ok()
+fn print_refusal(rt: &impl Print, refusal: Refusal) -> bool {
+    println!(rt; "refused {}", refusal.number()).is_ok()
 }
 
 fn plan_of(rt: &impl Print, sheet: &[u8]) -> bool {
     let mut area = [0u8; AREA];
     match search::open_plan(sheet, &mut area) {
-        Planned::Written { bytes, moves: _ } => print_plan(rt, &area, bytes),
-        Planned::Refused(k) => print_refusal(rt, k),
+        Ok(written) => print_plan(rt, &area, written.bytes),
+        Err(refusal) => print_refusal(rt, refusal),
     }
 }
 

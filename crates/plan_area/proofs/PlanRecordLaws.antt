@@ -14,16 +14,13 @@ use Rattle.model.proofs.Bools.{cases, and_left, and_right}
 use Rattle.model.proofs.SumLaws.{on_le}
 use Rattle.model.proofs.CountLaws.{count_le}
 use Rattle.model.proofs.PlaceLaws.{few_places}
-use Rattle.record.specs.Records.{record_of, record_at, whole_record_at, bytes_of, splice}
-use Rattle.record.specs.declared.Record.{Record}
+use Rattle.record.specs.Records.{record_of, bytes_of, splice}
 use Rattle.questions.specs.Bounds.{most_yards, most_farms}
 use Rattle.questions.specs.Sheet.{fee, farm_byte, loads_of, instance_by}
 use Rattle.questions.specs.Shape.{Shape}
 use Rattle.stretch.specs.Stretch.{stretch}
-use Rattle.record.proofs.RecordLaws.{whole}
-use Rattle.stretch.proofs.FarmLaws.{byte_on}
 use Rattle.record.proofs.SpliceLaws.{length_bytes, splice_turn}
-use Rattle.nearest.specs.declared.Nearest.{Nearest}
+use Rattle.nearest.specs.Nearest.{Nearest}
 use Rattle.plan_area.specs.declared.plan.Total.{Total}
 use Rattle.nearest.specs.Nearest.{nearest_on}
 use Rattle.plan_area.specs.Plan.{open_record, farm_record, total_record, moves_record, plan_bytes, total_amount, question9, plan_fits, writing, open_kind, farm_kind, total_kind, moves_kind}
@@ -72,13 +69,11 @@ module _ (I : Instance) (set : ℕ) where
 -- ---- the parts of a sheet's plan
 
 module _ (s : List ℕ) (m n set : ℕ) where
-  -- an open yard's record has the amount of the yard's record on the sheet
-  pub open_on : Shape s m n → (i : ℕ) → i < m → member set i ≡ true → (r : Record) → r ≡ whole_record_at s i
-      → open_record (instance_by s m n) set i ≡ bytes_of (record_of open_kind i 0 0 r.amount)
-  unfolding instance_by fee
-  open_on shape i l e r h =
-      let on_sheet : r ≡ record_at s i = h ∙ whole s i (omega (arith, shape.room)) in
-      opened_record (instance_by s m n) set i e ∙ ap (λ (x : Record). bytes_of (record_of open_kind i 0 0 x.amount)) (sym on_sheet)
+  -- an open yard's record has its fee
+  pub open_with : (i : ℕ) → member set i ≡ true → (amount : ℕ) → amount ≡ fee s i
+      → open_record (instance_by s m n) set i ≡ bytes_of (record_of open_kind i 0 0 amount)
+  unfolding instance_by
+  open_with i e amount h = opened_record (instance_by s m n) set i e ∙ ap (λ (x : ℕ). bytes_of (record_of open_kind i 0 0 x)) (sym h)
 
   -- a farm's record has the yard and the haul that are nearest on the farm's stretch, and the byte of its loads
   pub farm_on : Shape s m n → (p : ℕ) → p < n → (hauls : List ℕ) (r : Nearest) → hauls ≡ stretch s m p → r ≡ nearest_on s hauls set
@@ -92,14 +87,13 @@ module _ (s : List ℕ) (m n set : ℕ) where
         farm_yard_small s m n p shape l (member set),
       )
 
-  -- what a farm's loads cost, and its record, by what is read off the stretch: the nearest yard on it, and its first record
-  pub farm_from_lem : Shape s m n → (p : ℕ) → p < n → (hauls : List ℕ) (near : Nearest) (first : Record) (loads : ℕ)
-      → hauls ≡ stretch s m p → near ≡ nearest_on s hauls set → first ≡ whole_record_at hauls 0 → loads ≡ loads_of first.byte3
+  -- what a farm's loads cost, and its record, by the nearest yard on the stretch and the byte of its loads
+  pub farm_from_lem : Shape s m n → (p : ℕ) → p < n → (hauls : List ℕ) (near : Nearest) (byte loads : ℕ)
+      → hauls ≡ stretch s m p → near ≡ nearest_on s hauls set → byte ≡ farm_byte s m p → loads ≡ loads_of byte
       → (loads * near.haul ≡ loads_of (farm_byte s m p) * nearest (instance_by s m n) (member set) p)
-      × (bytes_of (record_of farm_kind near.yard p first.byte3 near.haul) ≡ farm_record (instance_by s m n) (farm_byte s m) set p)
-  farm_from_lem shape p l hauls near first loads part e e' told =
+      × (bytes_of (record_of farm_kind near.yard p byte near.haul) ≡ farm_record (instance_by s m n) (farm_byte s m) set p)
+  farm_from_lem shape p l hauls near byte loads part e repeated told =
       let is = farm_on shape p l hauls near part e in
-      let repeated = byte_on s m n p shape l hauls first part e' in
       (ap₂ ◌*◌ (told ∙ ap loads_of repeated) is.0, rw repeated (sym is.1))
 
   -- the yards' records, the farms' and the last two
@@ -141,18 +135,6 @@ plan_length I byte3 set total moves =
 -- ---- question 9
 
 module _ (m n room : ℕ) where
-  pub no_yard_lem : m < 1 → plan_fits m n room ≡ false
-  unfolding plan_fits
-  no_yard_lem h = rw (lt-leb 1 m h)
-
-  pub many_yards : 1 ≤ m → most_yards < m → plan_fits m n room ≡ false
-  unfolding plan_fits
-  many_yards e h = rw (le-leb 1 m e, lt-leb m most_yards h)
-
-  pub many_farms : 1 ≤ m → m ≤ most_yards → most_farms < n → plan_fits m n room ≡ false
-  unfolding plan_fits
-  many_farms e f h = rw (le-leb 1 m e, le-leb m most_yards f, lt-leb n most_farms h)
-
   -- within the bounds it is question 9
   pub fits_within : 1 ≤ m → m ≤ most_yards → n ≤ most_farms → plan_fits m n room ≡ question9 m n room
   unfolding plan_fits

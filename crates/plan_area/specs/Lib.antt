@@ -1,2 +1,3 @@
--- Plan: the records of a plan.
+-- Plan: the records of a plan. CountedSheet: what a sheet holds, for private functions.
 pub mod Plan
+pub mod CountedSheet

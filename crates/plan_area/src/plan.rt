@@ -3,13 +3,15 @@ ghost use Rattle.std.specs.Prelude.{◌≡◌, ◌+◌, ◌*◌, ◌≤◌, ◌<
 ghost use Rattle.model.specs.Loops.{most_term, join};
 ghost use Rattle.model.specs.Sets.{count, member};
 ghost use Rattle.model.specs.Instance.{nearest, opening_cost, service_cost, total_cost};
-ghost use Rattle.sets.specs.Members.{rising_below};
 ghost use Rattle.record.specs.Records.{record_of, bytes_of, splice};
 ghost use Rattle.questions.specs.Bounds.{most_yards, most_farms};
 ghost use Rattle.questions.specs.Sheet.{fee, farm_byte, loads_of, instance_by};
-ghost use Rattle.questions.specs.Shape.{Shape};
+ghost use Rattle.plan_area.specs.CountedSheet.{instance_on, loads_on};
 ghost use Rattle.plan_area.specs.Plan.{total_kind, open_record, farm_record, moves_record, total_amount, plan_fits, writing};
 
+use crate::counted_sheet::CountedSheet;
+use crate::open_yards::OpenYards;
+use nearest::NOWHERE;
 use questions::{MOST_FARMS, MOST_YARDS};
 use record::Record;
 
@@ -39,19 +41,14 @@ struct Totals {
 }
 
 // Question 9; of counts that no accepted sheet has the answer is no.
+#[tactic(auto, unfolding(crate::specs::Plan::plan_fits, crate::specs::Plan::question9))]
 pub fn plan_fits(yards: usize, farms: usize, room: usize) -> bool
     ensures { result ≡ plan_fits yards farms room }
 {
-    if yards < 1 {
-        return false;
-    }
-    if MOST_YARDS < yards {
-        return false;
-    }
-    if MOST_FARMS < farms {
-        return false;
-    }
-    Record::LEN * (yards + farms + 2) <= room
+    1 <= yards
+        && yards <= MOST_YARDS
+        && farms <= MOST_FARMS
+        && Record::LEN * (yards + farms + 2) <= room
 }
 
 // Writes the plan of a set on a sheet of so many yards and farms, and gives the bytes written. Where the sheet has not so many
@@ -74,7 +71,12 @@ pub fn write_plan(
     if sheet.len() < Record::LEN * (yards + farms * yards) {
         return 0;
     }
-    let totals = put_yards_and_farms(sheet, yards, farms, set, area);
+    let counted = CountedSheet {
+        bytes: sheet,
+        yards,
+        farms,
+    };
+    let totals = put_yards_and_farms(counted, set, area);
     let amount = amount_of(total, totals.cost);
     put_total_and_moves(totals.open_yards, farms, amount, moves, area)
 }
@@ -91,107 +93,79 @@ fn amount_of(total: Total, cost: u64) -> u32
 
 // Writes the records of the open yards to the front of the area and those of the farms behind them, and gives the count of the
 // open yards and the full cost.
-fn put_yards_and_farms(sheet: &[u8], m: usize, n: usize, set: u32, area: &mut [u8]) -> Totals
-    requires { Shape sheet.now m n × (8 * (m + n) ≤ length area.old) }
-    ensures open { result.open_yards ≡ count m (member set) }
-    ensures cost { result.cost ≡ total_cost (instance_by sheet.now m n) (member set) }
-    ensures area { area.new ≡ splice area.old 0 (join m (open_record (instance_by sheet.now m n) set) ++ join n (farm_record (instance_by sheet.now m n) (farm_byte sheet.now m) set)) }
+fn put_yards_and_farms(sheet: CountedSheet, set: u32, area: &mut [u8]) -> Totals
+    requires { 8 * (sheet.yards + sheet.farms) ≤ length area.old }
+    ensures open { result.open_yards ≡ count sheet.entry.yards (member set) }
+    ensures cost { result.cost ≡ total_cost (instance_on sheet.entry) (member set) }
+    ensures area { area.new ≡ splice area.old 0 (join sheet.entry.yards (open_record (instance_on sheet.entry) set) ++ join sheet.entry.farms (farm_record (instance_on sheet.entry) (loads_on sheet.entry) set)) }
 {
-    let open = sets::members_below(set, m);
-    let list = open.list;
-    let count = open.count;
-    let fees = put_opens(sheet, m, n, set, &list[..count], area);
-    let from = Record::LEN * count;
-    let hauls = put_farms(sheet, m, n, set, &list[..count], area, from);
+    let members = sets::members_below(set, sheet.yards);
+    let open = OpenYards {
+        sheet,
+        set,
+        list: &members.list[..members.count],
+    };
+    let fees = put_opens(open, area);
+    let hauls = put_farms(open, area, Record::LEN * open.list.len());
     Totals {
-        open_yards: count,
+        open_yards: open.list.len(),
         cost: fees + hauls,
     }
 }
 
 // Writes the record of an open yard, and gives its fee.
-fn put_open(sheet: &[u8], m: usize, n: usize, set: u32, yard: u8, area: &mut [u8], at: usize) -> u32
-    requires { Shape sheet.now m n × (yard < m) × (member set yard ≡ true) × (at + 8 ≤ length area.old) }
-    ensures fee { result ≡ fee sheet.now yard }
-    ensures area { area.new ≡ splice area.old at (open_record (instance_by sheet.now m n) set yard) }
+fn put_open(sheet: CountedSheet, set: u32, yard: u8, area: &mut [u8], at: usize) -> u32
+    requires { (yard < sheet.yards) × (member set yard ≡ true) × (at + 8 ≤ length area.old) }
+    ensures fee { result ≡ fee sheet.entry.bytes.now yard }
+    ensures area { area.new ≡ splice area.old at (open_record (instance_on sheet.entry) set yard) }
 {
-    let on_sheet = Record::at(sheet, yard as usize);
-    let record = Record::new(KIND_OPEN, yard, 0, 0, on_sheet.amount);
+    let record = Record::new(KIND_OPEN, yard, 0, 0, sheet.fee(yard as usize));
     record.put(area, at);
-    on_sheet.amount
+    record.amount
 }
 
-// Writes the records of the listed yards to the front of the area, and gives their fees.
-fn put_opens(sheet: &[u8], m: usize, n: usize, set: u32, yards: &[u8], area: &mut [u8]) -> u64
-    requires { Shape sheet.now m n × (yards.now ≡ rising_below m set) × (8 * m ≤ length area.old) }
-    ensures exact { result ≡ opening_cost (instance_by sheet.now m n) (member set) }
-    ensures small { result ≤ m * most_term }
-    ensures area { area.new ≡ splice area.old 0 (join m (open_record (instance_by sheet.now m n) set)) }
+// Writes the records of the open yards to the front of the area, and gives their fees.
+fn put_opens(open: OpenYards, area: &mut [u8]) -> u64
+    requires { 8 * open.sheet.yards ≤ length area.old }
+    ensures exact { result ≡ opening_cost (instance_on open.entry.sheet) (member open.entry.set) }
+    ensures small { result ≤ open.entry.sheet.yards * most_term }
+    ensures area { area.new ≡ splice area.old 0 (join open.entry.sheet.yards (open_record (instance_on open.entry.sheet) open.entry.set)) }
 {
     let mut total: u64 = 0;
-    let mut t = 0;
-    while t < yards.len() {
-        let fee = put_open(sheet, m, n, set, yards[t], area, Record::LEN * t);
+    for (t, &yard) in open.list.iter().enumerate() {
+        let fee = put_open(open.sheet, open.set, yard, area, Record::LEN * t);
         total += fee as u64;
-        t += 1;
     }
     total
 }
 
 // Writes the record of a farm, with the haul of one load, and gives what all its loads cost.
-fn put_farm(
-    sheet: &[u8],
-    m: usize,
-    n: usize,
-    set: u32,
-    yards: &[u8],
-    farm: usize,
-    area: &mut [u8],
-    at: usize,
-) -> u64
-    requires { Shape sheet.now m n × (yards.now ≡ rising_below m set) × (farm < n) × (at + 8 ≤ length area.old) }
-    ensures exact { result ≡ loads_of (farm_byte sheet.now m farm) * nearest (instance_by sheet.now m n) (member set) farm }
+fn put_farm(open: OpenYards, farm: usize, area: &mut [u8], at: usize) -> u64
+    requires { (farm < open.sheet.farms) × (at + 8 ≤ length area.old) }
+    ensures exact { result ≡ loads_of (loads_on open.entry.sheet farm) * nearest (instance_on open.entry.sheet) (member open.entry.set) farm }
     ensures small { result ≤ most_term }
-    ensures area { area.new ≡ splice area.old at (farm_record (instance_by sheet.now m n) (farm_byte sheet.now m) set farm) }
+    ensures area { area.new ≡ splice area.old at (farm_record (instance_on open.entry.sheet) (loads_on open.entry.sheet) open.entry.set farm) }
 {
-    let hauls = stretch::farm_stretch(sheet, m, farm);
-    let near = nearest::nearest_listed(sheet, hauls, yards);
-    let byte3 = Record::at(hauls, 0).byte3;
+    let sheet = open.sheet;
+    let near = nearest::nearest_listed(sheet.bytes, sheet.hauls(farm), open.list).unwrap_or(
+        NOWHERE,
+    );
+    let byte3 = sheet.loads_byte(farm);
     let record = Record::new(KIND_FARM, near.yard as u8, farm as u8, byte3, near.haul);
     record.put(area, at);
     questions::loads_of(byte3) * (near.haul as u64)
 }
 
 // Writes the records of the farms from an offset on, and gives the sum of their hauls, times loads.
-fn put_farms(
-    sheet: &[u8],
-    m: usize,
-    n: usize,
-    set: u32,
-    yards: &[u8],
-    area: &mut [u8],
-    from: usize,
-) -> u64
-    requires { Shape sheet.now m n × (yards.now ≡ rising_below m set) × (from + 8 * n ≤ length area.old) }
-    ensures exact { result ≡ service_cost (instance_by sheet.now m n) (member set) }
-    ensures small { result ≤ n * most_term }
-    ensures area { area.new ≡ splice area.old from (join n (farm_record (instance_by sheet.now m n) (farm_byte sheet.now m) set)) }
+fn put_farms(open: OpenYards, area: &mut [u8], from: usize) -> u64
+    requires { from + 8 * open.sheet.farms ≤ length area.old }
+    ensures exact { result ≡ service_cost (instance_on open.entry.sheet) (member open.entry.set) }
+    ensures small { result ≤ open.entry.sheet.farms * most_term }
+    ensures area { area.new ≡ splice area.old from (join open.entry.sheet.farms (farm_record (instance_on open.entry.sheet) (loads_on open.entry.sheet) open.entry.set)) }
 {
     let mut total: u64 = 0;
-    let mut farm = 0;
-    while farm < n {
-        let cost = put_farm(
-            sheet,
-            m,
-            n,
-            set,
-            yards,
-            farm,
-            area,
-            from + Record::LEN * farm,
-        );
-        total += cost;
-        farm += 1;
+    for farm in 0..open.sheet.farms {
+        total += put_farm(open, farm, area, from + Record::LEN * farm);
     }
     total
 }

@@ -1,7 +1,6 @@
--- Laws of the kinds of plans: each cost is so many times the fees and so many times the hauls, the moves are the engine's, the total is what the writer
--- is told, and moves lead to sets of the same facilities.
+-- Laws of the kinds of plans: each cost is so many times the fees and so many times the hauls, the moves are the engine's, the total is that cost, and moves lead to sets of the same facilities.
 use Prim.Native.Nat.{ℕ, ◌+◌, ◌*◌, ◌^◌, ◌≤◌, ◌<◌}
-use native.Mathlib.Nat.{zero-add, zero-mul, one-mul, mod-eq_of_lt}
+use native.Mathlib.Nat.{zero-add, zero-mul, one-mul}
 use native.Mathlib.Omega.{arith}
 use mathlib.Core.Path.{◌≡◌, refl, sym, ap₂, ◌∙◌}
 use mathlib.Core.Bool.{true}
@@ -13,11 +12,10 @@ use Rattle.model.specs.Plans.{open_cost, limited_cost}
 use Rattle.model.proofs.LeastLaws.{counted_any, any_counted}
 use Rattle.model.proofs.NeighbourLaws.{moves_keep, swaps_keep}
 use Rattle.record.specs.Records.{amount_end}
-use Rattle.plan_area.specs.Plan.{total_amount}
 use Rattle.engine.specs.Moves.{neighbours_by}
 use Rattle.plan_search.specs.Kinds.{cost_by_kind, moves_by, total_by}
 use Rattle.plan_search.specs.SheetTables.{most_factor}
-use Rattle.plan_search.specs.Terms.{terms_of, total_shown}
+use Rattle.plan_search.specs.Terms.{terms_of}
 use Rattle.plan_search.specs.declared.PlanKind.{PlanKind}
 use Rattle.plan_search.specs.declared.PlanKind.TheVariants.{Open, Limited}
 
@@ -40,13 +38,18 @@ unfolding terms_of neighbours_by moves_by
 moves_terms Open m = refl
 moves_terms Limited m = refl
 
--- ---- the total, where costs fit an amount
+-- ---- the total is that cost, and fits an amount where both of a set's costs do
 
-pub total_shown_lem : (kind : PlanKind) (I : Instance) (set : ℕ) → total_cost I (member set) < amount_end → service_cost I (member set) < amount_end
-    → total_amount (total_shown kind (cost_by_kind kind I set)) (total_cost I (member set)) ≡ total_by kind I set
-unfolding total_shown total_by cost_by_kind open_cost limited_cost
-total_shown_lem Open I set total service = mod-eq_of_lt total
-total_shown_lem Limited I set total service = mod-eq_of_lt service
+pub total_lem : (kind : PlanKind) (I : Instance) (set : ℕ) → cost_by_kind kind I set ≡ total_by kind I set
+unfolding total_by cost_by_kind
+total_lem Open I set = refl
+total_lem Limited I set = refl
+
+pub cost_fits : (kind : PlanKind) (I : Instance) (set : ℕ) → total_cost I (member set) < amount_end → service_cost I (member set) < amount_end
+    → cost_by_kind kind I set < amount_end
+unfolding cost_by_kind open_cost limited_cost
+cost_fits Open I set total service = total
+cost_fits Limited I set total service = service
 
 -- ---- moves lead from sets of facilities that are not empty to such sets
 

@@ -14,6 +14,8 @@ use Rattle.price.proofs.OfPlanLaws.{PlanOf, set_read_off}
 use Rattle.plan_search.specs.Planning.{SearchPlan, search_plan, search_planning, Told, told, searched_answer, search_answer, plan_left, OfSettled, OfStopped}
 use Rattle.plan_search.specs.declared.PlanKind.{PlanKind}
 use Rattle.starts.specs.declared.PlanStart.{PlanStart}
+use Rattle.std.specs.Prelude.{Result}
+use Rattle.refusal.specs.declared.Refusal.{Refusal}
 use Rattle.plan_search.specs.declared.Searched.{Searched}
 use Rattle.plan_search.proofs.OutcomeLaws.{outcome_keeps}
 use Rattle.plan_search.proofs.PlanningLaws.{Passed, planned_when, passed_start}
@@ -51,7 +53,7 @@ module _ (kind : PlanKind) (start : PlanStart) (limit : ℕ) (s : List ℕ) (roo
   set_in_area area = set_read_off (plan_left (search_planning kind start limit s room)) p.plan p.set (ap plan_left made) plan_of_set area
 
 -- the call answers as the definition says
-module _ (kind : PlanKind) (start : PlanStart) (limit : ℕ) (s : List ℕ) (r : Searched) (area next : List ℕ)
+module _ (kind : PlanKind) (start : PlanStart) (limit : ℕ) (s : List ℕ) (r : Result Searched Refusal) (area next : List ℕ)
     (says : searched_answer r ≡ search_answer (search_planning kind start limit s (length area)))
     (leaves : next ≡ area_after (plan_left (search_planning kind start limit s (length area))) area) (P : ℕ → Type 0) where
   by : (t : Told) → searched_answer r ≡ accepted t

@@ -1,32 +1,33 @@
 -- The cases of the call that searches: each refusal, and the plan of the set reached; and back, where a plan is made the questions were answered yes.
-use Prim.Native.Nat.{ℕ}
+use Prim.Native.Nat.{ℕ, ◌<◌}
 use mathlib.Core.Path.{◌≡◌, refl, sym, ap, ap₂, subst, ◌∙◌}
 use mathlib.Core.Bool.{Bool, true, false}
 use mathlib.Core.List.{List}
 use lib.ListN.{length}
 use Rattle.model.specs.Sets.{member}
-use Rattle.model.specs.Instance.{total_cost}
+use Rattle.model.specs.Limit.{Outcome}
 use Rattle.model.specs.Answers.{Answer, accepted, refused}
 use Rattle.model.proofs.AnswerLaws.{same_result, asked, passed_first}
-use Rattle.record.specs.Records.{splice}
+use Rattle.record.specs.Records.{splice, amount_end}
 use Rattle.questions.specs.Sheet.{yards, farm_byte, instance_by, instance_of}
 use Rattle.questions.specs.Reading.{counts, reading}
 use Rattle.questions.proofs.AcceptedLaws.{instance_is, accepts, shape_of, door, facilities_read}
 use Rattle.questions.proofs.CostBounds.{total_fits, service_fits}
-use Rattle.plan_area.specs.declared.plan.Total.{Total}
-use Rattle.plan_area.specs.Plan.{plan_bytes, question9, total_amount, writing}
+use Rattle.plan_area.specs.declared.plan.Total.TheVariants.{Given}
+use Rattle.plan_area.specs.Plan.{plan_bytes, question9, writing}
 use Rattle.price.specs.Pricing.{area_after}
 use Rattle.price.proofs.PricingLaws.{writes_of}
 use Rattle.starts.specs.Starts.{start_refusal}
 use Rattle.plan_search.specs.Kinds.{cost_by_kind, total_by, outcome_by}
 use Rattle.plan_search.specs.Planning.{SearchPlan, search_plan, search_planning, told, searched_answer, search_answer, plan_left}
-use Rattle.plan_search.specs.Terms.{total_shown, outcome_of, plan_on}
+use Rattle.plan_search.specs.Terms.{plan_on}
 use Rattle.plan_search.specs.declared.PlanKind.{PlanKind}
 use Rattle.starts.specs.declared.PlanStart.{PlanStart}
+use Rattle.std.specs.Prelude.{Result}
+use Rattle.refusal.specs.declared.Refusal.{Refusal}
 use Rattle.plan_search.specs.declared.Searched.{Searched}
-use Rattle.plan_search.specs.declared.planning.End.{End}
 use Rattle.starts.proofs.StartLaws.{start_passed, start_refused, start_asked}
-use Rattle.plan_search.proofs.KindLaws.{total_shown_lem}
+use Rattle.plan_search.proofs.KindLaws.{total_lem, cost_fits}
 
 -- ---- what a call answers and leaves
 
@@ -37,33 +38,32 @@ unfolding search_answer plan_left area_after
 refuses outcome area k e = rw e (refl, refl)
 
 -- by another name for its outcome
-pub as_outcome : {outcome other : Answer SearchPlan} → other ≡ outcome → (r : Searched) (area next : List ℕ)
+pub as_outcome : {outcome other : Answer SearchPlan} → other ≡ outcome → (r : Result Searched Refusal) (area next : List ℕ)
     → (searched_answer r ≡ search_answer other) × (next ≡ area_after (plan_left other) area)
     → (searched_answer r ≡ search_answer outcome) × (next ≡ area_after (plan_left outcome) area)
 as_outcome e r area next h = subst (λ o. (searched_answer r ≡ search_answer o) × (next ≡ area_after (plan_left o) area)) e h
 
 -- the writer, given where a search ended, leaves the plan of its set
-module _ (kind : PlanKind) (s : List ℕ) (m n : ℕ) (e : reading s ≡ accepted (counts m n)) (end : End)
-    (costs : end.cost ≡ cost_by_kind kind (instance_by s m n) end.set) (total : Total) (shown : total ≡ total_shown kind end.cost) where
-  total_is : total_amount total (total_cost (instance_by s m n) (member end.set)) ≡ total_by kind (instance_by s m n) end.set
-  total_is =
+module _ (kind : PlanKind) (s : List ℕ) (m n : ℕ) (e : reading s ≡ accepted (counts m n)) (set cost : ℕ)
+    (costs : cost ≡ cost_by_kind kind (instance_by s m n) set) where
+  pub cost_small : cost < amount_end
+  cost_small =
       let same = instance_is (accepts s m n e).has in
-      let set = member end.set in
-      ap (λ (t : Total). total_amount t (total_cost (instance_by s m n) set)) (shown ∙ ap (total_shown kind) costs)
-      ∙ total_shown_lem kind (instance_by s m n) end.set
-      (rw same (total_fits (instance_of s) (door s m n e) set)) (rw same (service_fits (instance_of s) (door s m n e) set))
+      rw costs (cost_fits kind (instance_by s m n) set
+      (rw same (total_fits (instance_of s) (door s m n e) (member set))) (rw same (service_fits (instance_of s) (door s m n e) (member set))))
 
-  pub writes_end : (area next : List ℕ) (bytes : ℕ) → question9 m n (length area) ≡ true
-      → bytes ≡ length (writing s m n end.set total end.moves (length area))
-      → next ≡ splice area 0 (writing s m n end.set total end.moves (length area))
-      → (stopped : Bool) → end.stopped ≡ stopped
-      → (accepted (told stopped end.set bytes end.moves) ≡ search_answer (plan_on kind s m n (outcome_of end)))
-      × (next ≡ area_after (plan_left (plan_on kind s m n (outcome_of end))) area)
+  pub writes_end : (area next : List ℕ) (bytes moves : ℕ) → question9 m n (length area) ≡ true
+      → bytes ≡ length (writing s m n set (Given cost) moves (length area))
+      → next ≡ splice area 0 (writing s m n set (Given cost) moves (length area))
+      → (r : Outcome) → r.set ≡ set → r.steps ≡ moves → (stopped : Bool) → r.stopped ≡ stopped
+      → (accepted (told stopped set bytes moves) ≡ search_answer (plan_on kind s m n r))
+      × (next ≡ area_after (plan_left (plan_on kind s m n r)) area)
   unfolding plan_on search_plan search_answer plan_left area_after
-  writes_end area next bytes q long put stopped stop =
-      let is = writes_of s m n end.set total end.moves (length area) (shape_of (accepts s m n e).has) q
-      ∙ ap (λ (x : ℕ). plan_bytes (instance_by s m n) (farm_byte s m) end.set x end.moves) total_is in (
-        ap₂ (λ (c : Bool) (k : ℕ). accepted (told c end.set k end.moves)) (sym stop) (long ∙ ap length is),
+  writes_end area next bytes moves q long put r set_is moves_are stopped stop =
+      let is = writes_of s m n set (Given cost) moves (length area) (shape_of (accepts s m n e).has) q
+      ∙ ap (λ (x : ℕ). plan_bytes (instance_by s m n) (farm_byte s m) set x moves) (costs ∙ total_lem kind (instance_by s m n) set) in
+      rw (set_is, moves_are, stop) (
+        ap (λ (k : ℕ). accepted (told stopped set k moves)) (long ∙ ap length is),
         put ∙ ap (splice area 0) is,
       )
 

@@ -1,6 +1,6 @@
 -- Laws of the search's tables: filling one, that a filled one is good, and that tables filled from a sheet cost what its instance does.
 use Prim.Native.Nat.{ℕ, ◌+◌, ◌*◌, ◌/◌, ◌%◌, ◌≤◌, ◌<◌}
-use native.Mathlib.Nat.{zero-add, add_assoc, add_comm, add-mul, zero-mul, mul-zero, one-mul, mul-le-mul, not-suc-le-zero, mod-lt, mod-eq_of_lt, mod-add-div', mul-add-mod_self_right, add-mul-div_right, div-eq_of_lt, div-lt_iff_lt-mul}
+use native.Mathlib.Nat.{zero-add, add_assoc, add_comm, mul-zero, one-mul, mul-le-mul, not-suc-le-zero, mod-lt, mod-eq_of_lt, mod-add-div', mul-add-mod_self_right, add-mul-div_right, div-eq_of_lt, div-lt_iff_lt-mul}
 use native.Mathlib.Decide.{dec_lt}
 use native.Mathlib.Omega.{arith}
 use mathlib.Core.Path.{◌≡◌, refl, sym, ap, ap₂, subst, ◌∙◌}
@@ -28,9 +28,6 @@ use Rattle.model.proofs.PlaceLaws.{front_more, row_within, few_places}
 use Rattle.plan_search.specs.SheetTables.{Holds, most_factor, scaled_fee, scaled_haul}
 
 -- ---- filling a table
-
-pub holds_none : (f : ℕ → ℕ) (table : List ℕ) → Holds f 0 table
-holds_none f table k l = absurd (not-suc-le-zero l)
 
 -- a fee more
 module _ (factor : ℕ) (s : List ℕ) where
@@ -94,13 +91,6 @@ module _ (factor : ℕ) (s : List ℕ) (m n p : ℕ) (e : reading s ≡ accepted
       subst (λ (k : ℕ). Holds (scaled_haul factor s m) k (set table (p * m + a) (factor * loads * x))) (add_assoc (p * m) a 1)
       (front_more (scaled_haul factor s m) (p * m + a) (factor * loads * x) table room
       (ap₂ (λ (y z : ℕ). factor * y * z) loads_are (haul_is a x la read) ∙ sym (haul_at factor s m p a la)) h)
-
--- no row, and a row more
-pub no_rows : (factor : ℕ) (s : List ℕ) (m : ℕ) (table : List ℕ) → Holds (scaled_haul factor s m) (0 * m) table
-no_rows factor s m table = subst (λ (k : ℕ). Holds (scaled_haul factor s m) k table) (sym (zero-mul m)) (holds_none (scaled_haul factor s m) table)
-
-pub next_row : (m p : ℕ) → (p + 1) * m ≡ p * m + m
-next_row m p = omega (arith, add-mul p 1 m)
 
 -- ---- filled tables are good
 

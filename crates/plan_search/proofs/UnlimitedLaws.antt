@@ -9,7 +9,8 @@ use Rattle.model.specs.Limit.{Outcome}
 use Rattle.model.specs.Answers.{Answer, accepted, refused, ask, after}
 use Rattle.model.proofs.Bools.{cases}
 use Rattle.questions.specs.Sheet.{yards, farm_byte, instance_of}
-use Rattle.questions.specs.Reading.{Counts, reading}
+use Rattle.questions.specs.declared.Counts.{Counts}
+use Rattle.questions.specs.Reading.{reading}
 use Rattle.questions.proofs.AcceptedLaws.{door, facilities_read}
 use Rattle.plan_area.specs.Plan.{question9}
 use Rattle.price.specs.Pricing.{Plan, plan, question8}

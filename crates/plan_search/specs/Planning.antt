@@ -1,8 +1,10 @@
 -- What a call that searches answers and leaves in the area: the questions that it asks, and the plan of the set that its search reaches.
-use Rattle.std.specs.Prelude.{ℕ, ◌≡◌, Bool, true, false, List, length}
+use Rattle.std.specs.Prelude.{ℕ, ◌≡◌, Bool, true, false, List, length, Result, Ok, Err}
 use Rattle.model.specs.Instance.{Instance}
 use Rattle.model.specs.Limit.{Outcome}
 use Rattle.model.specs.Answers.{Answer, accepted, refused, ask, after}
+use Rattle.refusal.specs.declared.Refusal.{Refusal}
+use Rattle.refusal.specs.Numbers.{number_of}
 use Rattle.questions.specs.Sheet.{yards, farm_byte, instance_of}
 use Rattle.questions.specs.Reading.{reading}
 use Rattle.plan_area.specs.Plan.{question9, plan_set}
@@ -12,7 +14,7 @@ use Rattle.plan_search.specs.Kinds.{total_by, outcome_by}
 use Rattle.plan_search.specs.declared.PlanKind.{PlanKind}
 use Rattle.starts.specs.declared.PlanStart.{PlanStart}
 use Rattle.plan_search.specs.declared.Searched.{Searched}
-use Rattle.plan_search.specs.declared.Searched.TheVariants.{Settled, Stopped, Refused}
+use Rattle.plan_search.specs.declared.Searched.TheVariants.{Settled, Stopped}
 
 -- what a search gives: whether it was stopped, else it is settled; the set reached; and the plan of that set
 pub record SearchPlan : Type 0 where
@@ -42,11 +44,15 @@ pub record Told : Type 0 where
 abbrev pub told : Bool → ℕ → ℕ → ℕ → Told
 told stopped set bytes moves = record { stopped = stopped; set = set; bytes = bytes; moves = moves }
 
--- the answer in each case of the code's enum
-abbrev pub searched_answer : Searched → Answer Told
-searched_answer (Settled set bytes moves) = accepted (told false set bytes moves)
-searched_answer (Stopped set bytes moves) = accepted (told true set bytes moves)
-searched_answer (Refused k) = refused k
+-- the answer in each case of the code's result, where each error has a number
+abbrev pub searched_by : {E : Type 0} → (E → ℕ) → Result Searched E → Answer Told
+searched_by number (Ok (Settled set bytes moves)) = accepted (told false set bytes moves)
+searched_by number (Ok (Stopped set bytes moves)) = accepted (told true set bytes moves)
+searched_by number (Err e) = refused (number e)
+
+-- that of a call, which refuses by a question
+abbrev pub searched_answer : Result Searched Refusal → Answer Told
+searched_answer r = searched_by number_of r
 
 -- what a call returns for the plan that it makes, or for its refusal
 unfoldable pub search_answer : Answer SearchPlan → Answer Told
@@ -59,8 +65,8 @@ plan_left (accepted p) = accepted p.plan
 plan_left (refused k) = refused k
 
 -- what holds of the set in the area where the search settled, and where it was stopped
-abbrev pub OfSettled : Searched → List ℕ → (ℕ → Type 0) → Type 0
-OfSettled r area P = (set bytes moves : ℕ) → r ≡ Settled set bytes moves → P (plan_set area bytes)
+abbrev pub OfSettled : Result Searched Refusal → List ℕ → (ℕ → Type 0) → Type 0
+OfSettled r area P = (set bytes moves : ℕ) → r ≡ Ok (Settled set bytes moves) → P (plan_set area bytes)
 
-abbrev pub OfStopped : Searched → List ℕ → (ℕ → Type 0) → Type 0
-OfStopped r area P = (set bytes moves : ℕ) → r ≡ Stopped set bytes moves → P (plan_set area bytes)
+abbrev pub OfStopped : Result Searched Refusal → List ℕ → (ℕ → Type 0) → Type 0
+OfStopped r area P = (set bytes moves : ℕ) → r ≡ Ok (Stopped set bytes moves) → P (plan_set area bytes)

@@ -12,7 +12,8 @@ ghost use Rattle.std.specs.Prelude.{◌≡◌, length};
 ghost use Rattle.price.specs.Pricing.{area_after};
 ghost use Rattle.plan_search.specs.Planning.{searched_answer, search_answer, plan_left, search_planning};
 
-use sheet::Reading;
+use refusal::Refusal;
+use sheet::Counts;
 use starts::PlanStart;
 
 // What a search goes by. Open: fees and hauls, by adds, drops and swaps of yards. Limited: hauls alone, by swaps.
@@ -22,13 +23,12 @@ pub enum PlanKind {
     Limited,
 }
 
-// What a call that searches answers. Settled: no move lowers the cost. Stopped: as many moves as it may were made, and another would lower the
-// cost. With the set reached, the bytes of its plan and the moves made. Refused: the number of the first question that is answered no.
+// How a search came out. Settled: no move lowers the cost. Stopped: as many moves as it may were made, and another would lower the cost. With the
+// set reached, the bytes of its plan and the moves made.
 #[derive(Clone, Copy)]
 pub enum Searched {
     Settled { set: u32, bytes: usize, moves: u32 },
     Stopped { set: u32, bytes: usize, moves: u32 },
-    Refused(u8),
 }
 
 // Writes the plan that a search with at most `limit` moves reaches to the front of the area. A refused call leaves the area as it was.
@@ -38,22 +38,14 @@ pub fn search_plan(
     limit: u64,
     sheet: &[u8],
     area: &mut [u8],
-) -> Searched
+) -> Result<Searched, Refusal>
     ensures answer { searched_answer result ≡ search_answer (search_planning kind start limit sheet.now (length area.old)) }
     ensures area { area.new ≡ area_after (plan_left (search_planning kind start limit sheet.now (length area.old))) area.old }
 {
-    match sheet::read(sheet) {
-        Reading::Accepted { yards, farms } => {
-            let refusal = starts::start_refusal(start, yards);
-            if refusal != 0 {
-                return Searched::Refused(refusal);
-            }
-            let fits = plan_area::plan_fits(yards, farms, area.len());
-            if !fits {
-                return Searched::Refused(9);
-            }
-            planning::plan_on(kind, start, limit, sheet, yards, farms, area)
-        }
-        Reading::Refused(number) => Searched::Refused(number),
+    let Counts { yards, farms } = sheet::read(sheet)?;
+    starts::ask_start(start, yards)?;
+    if !plan_area::plan_fits(yards, farms, area.len()) {
+        return Err(Refusal::Area);
     }
+    Ok(planning::plan_on(kind, start, limit, sheet, yards, farms, area))
 }

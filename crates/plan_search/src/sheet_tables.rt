@@ -22,10 +22,8 @@ pub(crate) fn fill_fees(sheet: &[u8], m: usize, n: usize, factor: u64, table: &m
     requires { (reading sheet.now ≡ accepted (counts m n)) × (factor ≤ most_factor) × (m ≤ length table.old) }
     ensures { Holds (scaled_fee factor sheet.now) m table.new }
 {
-    let mut i = 0;
-    while i < m {
+    for i in 0..m {
         table[i] = factor * (amount_at(sheet, i) as u64);
-        i += 1;
     }
 }
 
@@ -36,12 +34,10 @@ fn fill_row(sheet: &[u8], m: usize, n: usize, factor: u64, farm: usize, table: &
 {
     let hauls = stretch::farm_stretch(sheet, m, farm);
     let loads = factor * questions::loads_of(Record::at(hauls, 0).byte3);
-    let mut a = 0;
-    while a < m {
+    for a in 0..m {
         // a product of 64 bits is one instruction for two hauls, one of 32 bits takes several
         let cost = loads * (amount_at(hauls, a) as u64);
         table[farm * m + a] = cost as u32;
-        a += 1;
     }
 }
 
@@ -50,9 +46,7 @@ pub(crate) fn fill_rows(sheet: &[u8], m: usize, n: usize, factor: u64, table: &m
     requires { (reading sheet.now ≡ accepted (counts m n)) × (factor ≤ most_factor) × (n * m ≤ length table.old) }
     ensures { Holds (scaled_haul factor sheet.now m) (n * m) table.new }
 {
-    let mut farm = 0;
-    while farm < n {
+    for farm in 0..n {
         fill_row(sheet, m, n, factor, farm, table);
-        farm += 1;
     }
 }

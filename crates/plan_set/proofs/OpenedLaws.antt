@@ -1,7 +1,7 @@
 -- A loop over records collects the yards of those of kind 4F.
 -- Idea: yard by yard, a member of the set is one that some record passed opens.
-use Prim.Native.Nat.{ℕ, ◌+◌, ◌*◌, ◌/◌, ◌^◌, ◌≤◌, ◌<◌, min}
-use native.Mathlib.Nat.{zero-div, min-eq_left, min-eq_right}
+use Prim.Native.Nat.{ℕ, ◌+◌, ◌*◌, ◌^◌, ◌≤◌, ◌<◌}
+use native.Mathlib.Nat.{zero-div}
 use native.Mathlib.Numerals.{add-one}
 use native.Mathlib.Decide.{dec_lt}
 use native.Mathlib.Omega.{arith}
@@ -13,7 +13,7 @@ use lib.ListN.{length}
 use lib.Dec.{eqb}
 use Rattle.model.specs.Loops.{on}
 use Rattle.model.specs.Least.{any}
-use Rattle.model.specs.Sets.{member, with}
+use Rattle.model.specs.Sets.{member}
 use Rattle.model.proofs.Bools.{cases}
 use Rattle.model.proofs.SumLaws.{sum_cong}
 use Rattle.model.proofs.SetLaws.{member_with, member_sum, with_below}
@@ -22,7 +22,7 @@ use Rattle.sets.proofs.WithinLaws.{with32_below, with32_above}
 use Rattle.record.specs.Records.{record_at, whole_record_at}
 use Rattle.record.specs.declared.Record.{Record}
 use Rattle.questions.specs.Bounds.{most_yards}
-use Rattle.plan_area.specs.Plan.{open_kind, opens_at, plan_set}
+use Rattle.plan_area.specs.Plan.{open_kind, opens_at}
 use Rattle.plan_set.specs.Opened.{opened_by, with_record}
 
 -- the set has the yards that the first n records open
@@ -82,13 +82,3 @@ module _ (area : List ℕ) (i set : ℕ) (r : Record) (room : 8 * i + 8 ≤ leng
   pub with_other : (r.kind ≡ open_kind → ⊥) → set ≡ with_record area i set
   unfolding with_record
   with_other kind = rw (whole_is, ne_eqb r.kind open_kind kind)
-
--- of as many bytes as there are, at most
-module _ (area : List ℕ) (bytes : ℕ) where
-  pub in_all : length area < bytes → opened_by area (length area / 8) ≡ plan_set area (min bytes (length area))
-  unfolding opened_by plan_set
-  in_all short = rw (min-eq_right {n = length area} {m = bytes} (omega arith))
-
-  pub in_bytes : bytes ≤ length area → opened_by area (bytes / 8) ≡ plan_set area (min bytes (length area))
-  unfolding opened_by plan_set
-  in_bytes long = rw (min-eq_left {n = bytes} {m = length area} long)

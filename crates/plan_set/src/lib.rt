@@ -15,10 +15,7 @@ use record::Record;
 pub fn plan_set(area: &[u8], bytes: usize) -> u32
     ensures { result ≡ plan_set area.now (min bytes (length area.now)) }
 {
-    if area.len() < bytes {
-        return opened_by(area, area.len() / Record::LEN);
-    }
-    opened_by(area, bytes / Record::LEN)
+    opened_by(area, bytes.min(area.len()) / Record::LEN)
 }
 
 // The yards in the first n records.
@@ -26,11 +23,9 @@ fn opened_by(area: &[u8], n: usize) -> u32
     requires { 8 * n ≤ length area.now }
     ensures { result ≡ opened_by area.now n }
 {
-    let mut set: u32 = 0;
-    let mut i = 0;
-    while i < n {
+    let mut set = 0;
+    for i in 0..n {
         set = with_record(area, i, set);
-        i += 1;
     }
     set
 }
@@ -41,8 +36,7 @@ fn with_record(area: &[u8], i: usize, set: u32) -> u32
     ensures { result ≡ with_record area.now i set }
 {
     let record = Record::at(area, i);
-    let kind = record.kind;
-    match kind {
+    match record.kind {
         KIND_OPEN => sets::added(set, record.yard as usize),
         _ => set,
     }

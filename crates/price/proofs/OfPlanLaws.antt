@@ -8,6 +8,7 @@ use mathlib.Core.List.{List}
 use borrow.Author.Tests.{ltb-true}
 use lib.ListN.{length}
 use lib.Dec.{leb}
+use Rattle.std.specs.Prelude.{Result, Ok, Err}
 use Rattle.model.specs.Sets.{member}
 use Rattle.model.specs.Instance.{Instance, total_cost}
 use Rattle.model.proofs.Bools.{and_right}
@@ -19,9 +20,10 @@ use Rattle.questions.specs.Reading.{counts, reading}
 use Rattle.model.proofs.AnswerLaws.{same_result, not_both, asked, passed_first}
 use Rattle.questions.proofs.AcceptedLaws.{WithinBounds, door, facilities_read}
 use Rattle.plan_area.specs.Plan.{plan_bytes, question9, plan_set}
-use Rattle.price.specs.Pricing.{Result, Plan, plan, planned_answer, answer, area_after, OfPlan, question8, pricing, SetKept}
-use Rattle.price.specs.declared.Planned.{Planned}
-use Rattle.price.specs.declared.Planned.TheVariants.{Written, Refused}
+use Rattle.price.specs.declared.Written.{Written}
+use Rattle.refusal.specs.declared.Refusal.{Refusal}
+use Rattle.refusal.specs.Numbers.{answer_of}
+use Rattle.price.specs.Pricing.{Plan, plan, answer, area_after, OfPlan, question8, pricing, SetKept}
 use Rattle.price.proofs.PricingLaws.{answered, marked}
 use Rattle.plan_area.proofs.PlanSetLaws.{plan_set_lem}
 use Rattle.plan_area.proofs.PlanFarmLaws.{FarmsSent, farms_sent}
@@ -48,15 +50,15 @@ module _ (outcome : Answer Plan) (p : Plan) (set : ℕ) (e : outcome ≡ accepte
       ap₂ plan_set there (ap (λ (q : Plan). length q.bytes) f.is) ∙ plan_set_lem f.instance f.byte3 set f.total f.moves area f.few f.small
 
 -- the call answers as the outcome says
-module _ (outcome : Answer Plan) (r : Planned) (area next : List ℕ)
-    (says : planned_answer r ≡ answer outcome) (leaves : next ≡ area_after outcome area) where
+module _ (outcome : Answer Plan) (r : Result Written Refusal) (area next : List ℕ)
+    (says : answer_of r ≡ answer outcome) (leaves : next ≡ area_after outcome area) where
   -- what holds of the set of every plan that a call can make holds of the set that is read off the area at its exit
   pub of_plan : (P : ℕ → Type 0) → ((p : Plan) → outcome ≡ accepted p → (set : ℕ) × PlanOf set p × P set) → OfPlan r next P
-  of_plan P made bytes moves e =
-      let a = answered outcome _ (sym (ap planned_answer e) ∙ says) in
+  of_plan P made w e =
+      let a = answered outcome _ (sym (ap answer_of e) ∙ says) in
       let f = made a.0 a.1 in
-      let there : plan_set next bytes ≡ f.0 =
-      ap₂ plan_set leaves (ap (λ (x : Result). x.bytes) a.2) ∙ set_read_off outcome a.0 f.0 a.1 f.1 area in
+      let there : plan_set next w.bytes ≡ f.0 =
+      ap₂ plan_set leaves (ap (λ (x : Written). x.bytes) a.2) ∙ set_read_off outcome a.0 f.0 a.1 f.1 area in
       subst P (sym there) f.2
 
   -- and what is promised of an accepted call holds of its plan's own set, whatever moves were made, or none
@@ -64,11 +66,11 @@ module _ (outcome : Answer Plan) (r : Planned) (area next : List ℕ)
   unfolding answer
   promised P h p e set f = go r says h
     where
-      go : (w : Planned) → planned_answer w ≡ answer outcome → OfPlan w next P → P set
-      go (Written bytes moves) told hold =
-          let long : bytes ≡ length p.bytes = ap (λ (x : Result). x.bytes) (same_result (told ∙ ap answer e)) in
-          subst P (ap₂ plan_set leaves long ∙ set_read_off outcome p set e f area) (hold bytes moves refl)
-      go (Refused k) told hold = absurd (not_both (sym (told ∙ ap answer e)))
+      go : (q : Result Written Refusal) → answer_of q ≡ answer outcome → OfPlan q next P → P set
+      go (Ok w) told hold =
+          let long : w.bytes ≡ length p.bytes = ap (λ (x : Written). x.bytes) (same_result (told ∙ ap answer e)) in
+          subst P (ap₂ plan_set leaves long ∙ set_read_off outcome p set e f area) (hold w refl)
+      go (Err refusal) told hold = absurd (not_both (sym (told ∙ ap answer e)))
 
 -- ---- pricing
 
@@ -113,16 +115,16 @@ module _ (s : List ℕ) (set room : ℕ) (p : Plan) (h : pricing s set room ≡ 
       farms_sent s within set _ _ (rw as_many (marked r.0 set r.3).0) area _ (ap (λ o. area_after o area) (h ∙ ap accepted r.4))
 
 -- where pricing sends the farms, from its two equations
-pub pricing_sends : (s : List ℕ) (set : ℕ) (r : Planned) (area next : List ℕ)
-    → planned_answer r ≡ answer (pricing s set (length area)) → next ≡ area_after (pricing s set (length area)) area → OfPlan r next (FarmsSent s next)
+pub pricing_sends : (s : List ℕ) (set : ℕ) (r : Result Written Refusal) (area next : List ℕ)
+    → answer_of r ≡ answer (pricing s set (length area)) → next ≡ area_after (pricing s set (length area)) area → OfPlan r next (FarmsSent s next)
 pricing_sends s set r area next says leaves =
     of_plan (pricing s set (length area)) r area next says leaves (FarmsSent s next)
     (λ p e. (set, priced_set s set (length area) p e, rw leaves (priced_farms s set (length area) p e area)))
 
 -- all that pricing promises, from its two equations
-pub pricing_promises : (s : List ℕ) (set : ℕ) (r : Planned) (area next : List ℕ)
-    → (planned_answer r ≡ answer (pricing s set (length area))) × (next ≡ area_after (pricing s set (length area)) area)
-    → (planned_answer r ≡ answer (pricing s set (length area))) × ((next ≡ area_after (pricing s set (length area)) area) × SetKept set r next)
+pub pricing_promises : (s : List ℕ) (set : ℕ) (r : Result Written Refusal) (area next : List ℕ)
+    → (answer_of r ≡ answer (pricing s set (length area))) × (next ≡ area_after (pricing s set (length area)) area)
+    → (answer_of r ≡ answer (pricing s set (length area))) × ((next ≡ area_after (pricing s set (length area)) area) × SetKept set r next)
 pricing_promises s set r area next h = (
   h.0,
   (
@@ -133,5 +135,5 @@ pricing_promises s set r area next h = (
 )
 
 -- a refused call wrote no plan
-pub none_written : (k : ℕ) (area : List ℕ) (P : ℕ → Type 0) → OfPlan (Refused k) area P
-none_written k area P bytes moves e = absurd (let z : ◌≡◌ {A = ℕ} 0 1 = cc in omega arith)
+pub none_written : (refusal : Refusal) (area : List ℕ) (P : ℕ → Type 0) → OfPlan (Err refusal) area P
+none_written refusal area P w e = absurd (let z : ◌≡◌ {A = ℕ} 0 1 = cc in omega arith)

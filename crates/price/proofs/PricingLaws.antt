@@ -8,6 +8,7 @@ use mathlib.Core.List.{List}
 use borrow.Author.Tests.{le-leb, leb-true, lt-ltb, ltb-true}
 use lib.ListN.{length}
 use lib.Dec.{leb}
+use Rattle.std.specs.Prelude.{Result}
 use Rattle.model.specs.Least.{any}
 use Rattle.model.specs.Sets.{member}
 use Rattle.model.specs.Instance.{total_cost}
@@ -24,8 +25,10 @@ use Rattle.questions.proofs.CostBounds.{total_fits}
 use Rattle.plan_area.specs.declared.plan.Total.{Total}
 use Rattle.plan_area.specs.declared.plan.Total.TheVariants.{FullCost}
 use Rattle.plan_area.specs.Plan.{plan_bytes, question9, total_amount, writing}
-use Rattle.price.specs.Pricing.{Result, result, Plan, plan, planned_answer, answer, area_after, question8, pricing}
-use Rattle.price.specs.declared.Planned.{Planned}
+use Rattle.price.specs.declared.Written.{Written}
+use Rattle.refusal.specs.Numbers.{answer_of}
+use Rattle.price.specs.Pricing.{written, Plan, plan, answer, area_after, question8, pricing}
+use Rattle.refusal.specs.declared.Refusal.{Refusal}
 use Rattle.plan_area.proofs.PlanRecordLaws.{fits_within, writes_plan}
 
 -- ---- what a call answers and leaves: its number and the area as it was, or the plan at the area's front
@@ -36,14 +39,14 @@ module _ (outcome : Answer Plan) (area : List ℕ) where
   refuses k e = rw e (refl, refl)
 
   pub makes : (p : Plan) (next : List ℕ) (bytes moves : ℕ) → outcome ≡ accepted p → bytes ≡ length p.bytes → moves ≡ p.moves
-      → next ≡ splice area 0 p.bytes → (accepted (result bytes moves) ≡ answer outcome) × (next ≡ area_after outcome area)
+      → next ≡ splice area 0 p.bytes → (accepted (written bytes moves) ≡ answer outcome) × (next ≡ area_after outcome area)
   unfolding answer area_after
   makes p next bytes moves e b v put = rw (e, b, v, put) (refl, refl)
 
 -- ---- and back: a call that answers with bytes and moves made a plan of them
 
-pub answered : (outcome : Answer Plan) (r : Result) → accepted r ≡ answer outcome
-    → (p : Plan) × (outcome ≡ accepted p) × (r ≡ result (length p.bytes) p.moves)
+pub answered : (outcome : Answer Plan) (r : Written) → accepted r ≡ answer outcome
+    → (p : Plan) × (outcome ≡ accepted p) × (r ≡ written (length p.bytes) p.moves)
 unfolding answer
 answered (accepted p) r h = (p, refl, same_result h)
 answered (refused k) r h = absurd (not_both h)
@@ -99,7 +102,7 @@ module _ (s : List ℕ) (m n set : ℕ) (e : reading s ≡ accepted (counts m n)
   -- pricing that passes its questions writes the plan of the set
   pub prices : (area next : List ℕ) (bytes : ℕ) → question8 m set ≡ true → question9 m n (length area) ≡ true
       → bytes ≡ length (writing s m n set FullCost 0 (length area)) → next ≡ splice area 0 (writing s m n set FullCost 0 (length area))
-      → (accepted (result bytes 0) ≡ answer (pricing s set (length area))) × (next ≡ area_after (pricing s set (length area)) area)
+      → (accepted (written bytes 0) ≡ answer (pricing s set (length area))) × (next ≡ area_after (pricing s set (length area)) area)
   prices area next bytes q h long put =
       let form = (accepts s m n e).has in
       let total = total_amount FullCost (total_cost (instance_by s m n) (member set)) in
@@ -110,6 +113,6 @@ module _ (s : List ℕ) (m n set : ℕ) (e : reading s ≡ accepted (counts m n)
       (long ∙ ap length is) refl (put ∙ ap (splice area 0) is)
 
 -- what a call answers and leaves, by another name for its outcome
-pub as_outcome : {outcome other : Answer Plan} → other ≡ outcome → (r : Planned) (area next : List ℕ)
-    → (planned_answer r ≡ answer other) × (next ≡ area_after other area) → (planned_answer r ≡ answer outcome) × (next ≡ area_after outcome area)
-as_outcome e r area next h = subst (λ o. (planned_answer r ≡ answer o) × (next ≡ area_after o area)) e h
+pub as_outcome : {outcome other : Answer Plan} → other ≡ outcome → (r : Result Written Refusal) (area next : List ℕ)
+    → (answer_of r ≡ answer other) × (next ≡ area_after other area) → (answer_of r ≡ answer outcome) × (next ≡ area_after outcome area)
+as_outcome e r area next h = subst (λ o. (answer_of r ≡ answer o) × (next ≡ area_after o area)) e h

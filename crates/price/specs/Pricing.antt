@@ -1,5 +1,5 @@
 -- What the calls that write a plan answer and leave in the area, and what pricing a set gives.
-use Rattle.std.specs.Prelude.{ℕ, ◌^◌, ◌≡◌, Bool, ◌&&◌, List, length, leb, ltb}
+use Rattle.std.specs.Prelude.{ℕ, ◌^◌, ◌≡◌, Bool, ◌&&◌, List, length, leb, ltb, Result, Ok}
 use Rattle.model.specs.Sets.{member}
 use Rattle.model.specs.Instance.{Instance, total_cost}
 use Rattle.record.specs.Records.{splice}
@@ -7,21 +7,12 @@ use Rattle.model.specs.Answers.{Answer, accepted, refused, ask, after}
 use Rattle.questions.specs.Sheet.{yards, farm_byte, instance_of}
 use Rattle.questions.specs.Reading.{reading}
 use Rattle.plan_area.specs.Plan.{plan_bytes, question9, plan_set}
-use Rattle.price.specs.declared.Planned.{Planned}
-use Rattle.price.specs.declared.Planned.TheVariants.{Written, Refused}
+use Rattle.refusal.specs.declared.Refusal.{Refusal}
+use Rattle.price.specs.declared.Written.{Written}
 
 -- "The call returns the bytes written and the moves."
-pub record Result : Type 0 where
-  pub bytes : ℕ
-  pub moves : ℕ
-
-abbrev pub result : ℕ → ℕ → Result
-result bytes moves = record { bytes = bytes; moves = moves }
-
--- document 01's answer in each case of the code's enum
-abbrev pub planned_answer : Planned → Answer Result
-planned_answer (Written bytes moves) = accepted (result bytes moves)
-planned_answer (Refused k) = refused k
+abbrev pub written : ℕ → ℕ → Written
+written bytes moves = record { bytes = bytes; moves = moves }
 
 -- a plan: its records as bytes, and the moves made
 pub record Plan : Type 0 where
@@ -32,8 +23,8 @@ abbrev pub plan : Instance → (ℕ → ℕ) → ℕ → ℕ → ℕ → Plan
 plan I byte3 set total moves = record { bytes = plan_bytes I byte3 set total moves; moves = moves }
 
 -- what a call returns for the plan that it makes, or for its refusal
-unfoldable pub answer : Answer Plan → Answer Result
-answer (accepted p) = accepted (result (length p.bytes) p.moves)
+unfoldable pub answer : Answer Plan → Answer Written
+answer (accepted p) = accepted (written (length p.bytes) p.moves)
 answer (refused k) = refused k
 
 -- What it leaves in the area: the plan's records and behind them what stood there before; "a refused call returns its number alone
@@ -43,8 +34,8 @@ area_after (accepted p) area = splice area 0 p.bytes
 area_after (refused k) area = area
 
 -- what holds of the set in the area, where the call wrote a plan
-abbrev pub OfPlan : Planned → List ℕ → (ℕ → Type 0) → Type 0
-OfPlan r area P = (bytes moves : ℕ) → r ≡ Written bytes moves → P (plan_set area bytes)
+abbrev pub OfPlan : Result Written Refusal → List ℕ → (ℕ → Type 0) → Type 0
+OfPlan r area P = (w : Written) → r ≡ Ok w → P (plan_set area w.bytes)
 
 -- 8. Does the set, a 32-bit number whose bit i marks yard i, mark at least one yard and none numbered m or above?
 unfoldable pub question8 : ℕ → ℕ → Bool
@@ -57,5 +48,5 @@ pricing s set room =
     (accepted (plan (instance_of s) (farm_byte s (yards s)) set (total_cost (instance_of s) (member set)) 0))))
 
 -- "A priced list keeps the set given" (demand 2): it is the set in the area.
-abbrev pub SetKept : ℕ → Planned → List ℕ → Type 0
+abbrev pub SetKept : ℕ → Result Written Refusal → List ℕ → Type 0
 SetKept set r area = OfPlan r area (λ kept. kept ≡ set)

@@ -4,41 +4,36 @@
 #![tactic(auto)]
 
 ghost use Rattle.std.specs.Prelude.{◌≡◌, length};
-ghost use Rattle.price.specs.Pricing.{planned_answer, answer, area_after, question8, pricing, SetKept};
+ghost use Rattle.refusal.specs.Numbers.{answer_of};
+ghost use Rattle.price.specs.Pricing.{answer, area_after, question8, pricing, SetKept};
 
 use plan_area::Total;
-use sheet::{MOST_YARDS, Reading};
+use refusal::Refusal;
+use sheet::{Counts, MOST_YARDS};
 
-// What a call that writes a plan answers: the bytes written and the moves made, or the number of the first question that is
-// answered no.
+// What a call did that writes a plan: the bytes written and the moves made.
 #[derive(Clone, Copy)]
-pub enum Planned {
-    Written { bytes: usize, moves: u32 },
-    Refused(u8),
+pub struct Written {
+    pub bytes: usize,
+    pub moves: u32,
 }
 
 // Prices a set of yards, of which bit i marks yard i, and writes its plan to the front of the area. A refused call leaves the
 // area as it was.
-pub fn price(sheet: &[u8], set: u32, area: &mut [u8]) -> Planned
-    ensures answer { planned_answer result ≡ answer (pricing sheet.now set (length area.old)) }
+pub fn price(sheet: &[u8], set: u32, area: &mut [u8]) -> Result<Written, Refusal>
+    ensures answer { answer_of result ≡ answer (pricing sheet.now set (length area.old)) }
     ensures area { area.new ≡ area_after (pricing sheet.now set (length area.old)) area.old }
     ensures kept { SetKept set result area.new }
 {
-    match sheet::read(sheet) {
-        Reading::Accepted { yards, farms } => {
-            let marked = set_good(yards, set);
-            let fits = plan_area::plan_fits(yards, farms, area.len());
-            if !marked {
-                return Planned::Refused(8);
-            }
-            if !fits {
-                return Planned::Refused(9);
-            }
-            let bytes = plan_area::write_plan(sheet, yards, farms, set, Total::FullCost, 0, area);
-            Planned::Written { bytes, moves: 0 }
-        }
-        Reading::Refused(number) => Planned::Refused(number),
+    let Counts { yards, farms } = sheet::read(sheet)?;
+    if !set_good(yards, set) {
+        return Err(Refusal::Set);
     }
+    if !plan_area::plan_fits(yards, farms, area.len()) {
+        return Err(Refusal::Area);
+    }
+    let bytes = plan_area::write_plan(sheet, yards, farms, set, Total::FullCost, 0, area);
+    Ok(Written { bytes, moves: 0 })
 }
 
 // Question 8, of a sheet of m yards, for callers that have read it.

@@ -3,11 +3,12 @@
 #![tactic(auto)]
 
 ghost use Rattle.std.specs.Prelude.{◌≡◌, length};
-ghost use Rattle.price.specs.Pricing.{planned_answer, answer, area_after, SetKept};
+ghost use Rattle.refusal.specs.Numbers.{answer_of};
+ghost use Rattle.price.specs.Pricing.{answer, area_after, SetKept};
 ghost use Rattle.price_by.specs.PricingBy.{pricing_by};
 
-use distances::HaulSheet;
-use price::Planned;
+use price::Written;
+use refusal::Refusal;
 use sheet::MOST_BYTES;
 use tariff::TariffChoice;
 
@@ -19,15 +20,12 @@ pub fn price_by(
     tariff: &[u8],
     set: u32,
     area: &mut [u8],
-) -> Planned
-    ensures answer { planned_answer result ≡ answer (pricing_by choice tariff.now sheet.now set (length area.old)) }
+) -> Result<Written, Refusal>
+    ensures answer { answer_of result ≡ answer (pricing_by choice tariff.now sheet.now set (length area.old)) }
     ensures area { area.new ≡ area_after (pricing_by choice tariff.now sheet.now set (length area.old)) area.old }
     ensures kept { SetKept set result area.new }
 {
-    let mut hauls = [0u8; MOST_BYTES];
-    match distances::hauls_by(sheet, choice, tariff, &mut hauls) {
-        HaulSheet::AsWritten => price::price(sheet, set, area),
-        HaulSheet::Priced(bytes) => price::price(&hauls[..bytes], set, area),
-        HaulSheet::Refused(number) => Planned::Refused(number),
-    }
+    let mut lent = [0u8; MOST_BYTES];
+    let hauls = distances::hauls_by(sheet, choice, tariff, &mut lent)?;
+    price::price(hauls.within(sheet, &lent), set, area)
 }

@@ -11,7 +11,8 @@ use Rattle.model.proofs.AnswerLaws.{same_result, not_both, asked, passed_first}
 use Rattle.model.specs.Answers.{Answer, accepted, refused}
 use Rattle.questions.specs.Sheet.{yards, farms, instance_of}
 use Rattle.questions.specs.Questions.{question1, question2, question3, question4, question10, question5, question6}
-use Rattle.questions.specs.Reading.{Counts, counts, form, form_and_loads, reading}
+use Rattle.questions.specs.declared.Counts.{Counts}
+use Rattle.questions.specs.Reading.{counts, form, form_and_loads, reading}
 
 -- questions 1 to 4 are answered yes
 pub record Formed (s : List ℕ) : Type 0 where

@@ -3,21 +3,11 @@ use Rattle.std.specs.Prelude.{ℕ, List}
 use Rattle.model.specs.Answers.{Answer, accepted, refused, ask, after}
 use Rattle.questions.specs.Sheet.{yards, farms}
 use Rattle.questions.specs.Questions.{question1, question2, question3, question4, question10, question5, question6}
-use Rattle.questions.specs.declared.Reading.{Reading}
-use Rattle.questions.specs.declared.Reading.TheVariants.{Accepted, Refused}
+use Rattle.questions.specs.declared.Counts.{Counts}
 
 -- m and n
-pub record Counts : Type 0 where
-  pub yards : ℕ
-  pub farms : ℕ
-
 abbrev pub counts : ℕ → ℕ → Counts
 counts m n = record { yards = m; farms = n }
-
--- document 01's answer in each case of the code's enum
-abbrev pub reading_answer : Reading → Answer Counts
-reading_answer (Accepted m n) = accepted (counts m n)
-reading_answer (Refused k) = refused k
 
 -- questions 1 to 4: the form of a sheet
 unfoldable pub form : List ℕ → Answer Counts

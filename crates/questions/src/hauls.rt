@@ -21,32 +21,17 @@ fn farm_in_place(sheet: &[u8], m: usize, p: usize) -> bool
     requires { 8 * (m + p * m) + 8 * m ≤ length sheet.now }
     ensures { result ≡ farm_in_place sheet.now m p }
 {
-    let mut a = 0;
-    while a < m {
+    (0..m).all(|a| {
         let record = Record::at(sheet, m + p * m + a);
-        if record.yard as usize != a {
-            return false;
-        }
-        if record.farm as usize != p {
-            return false;
-        }
-        a += 1;
-    }
-    true
+        record.yard as usize == a && record.farm as usize == p
+    })
 }
 
 fn farms_in_place(sheet: &[u8], m: usize, n: usize) -> bool
     requires { (8 * (m + n * m) ≤ length sheet.now) × (n ≤ most_farms) }
     ensures { result ≡ all_below n (farm_in_place sheet.now m) }
 {
-    let mut p = 0;
-    while p < n {
-        if !farm_in_place(sheet, m, p) {
-            return false;
-        }
-        p += 1;
-    }
-    true
+    (0..n).all(|p| farm_in_place(sheet, m, p))
 }
 
 // Question 4, of a sheet with m yard records first and the rest shared out to n farms.

@@ -12,9 +12,11 @@ mod yards;
 ghost use Rattle.std.specs.Prelude.{◌≡◌};
 ghost use Rattle.questions.specs.Sheet.{loads_of};
 ghost use Rattle.questions.specs.Questions.{question1, well_formed, question2};
-ghost use Rattle.questions.specs.Reading.{reading_answer, form, form_and_loads};
+ghost use Rattle.refusal.specs.Numbers.{answer_of};
+ghost use Rattle.questions.specs.Reading.{form, form_and_loads};
 
 use record::Record;
+use refusal::Refusal;
 
 pub const KIND_YARD: u8 = 0x59;
 
@@ -30,62 +32,57 @@ pub const MOST_FARMS: usize = 128;
 
 pub const MOST_LOADS: u8 = 20;
 
-// The counts of a sheet that passes the questions asked, or the number of the first that it fails.
+// How many yards and farms a sheet has that passes the questions asked.
 #[derive(Clone, Copy)]
-pub enum Reading {
-    Accepted { yards: usize, farms: usize },
-    Refused(u8),
+pub struct Counts {
+    pub yards: usize,
+    pub farms: usize,
 }
 
 // Questions 1 to 4.
-pub fn form_of(sheet: &[u8]) -> Reading
-    ensures { reading_answer result ≡ form sheet.now }
+pub fn form_of(sheet: &[u8]) -> Result<Counts, Refusal>
+    ensures { answer_of result ≡ form sheet.now }
 {
     if !length_good(sheet) {
-        return Reading::Refused(1);
+        return Err(Refusal::Length);
     }
     if !records_good(sheet) {
-        return Reading::Refused(2);
+        return Err(Refusal::Kind);
     }
     let yards = yards::leading_yards(sheet);
     if !yards::yards_good(sheet, yards) {
-        return Reading::Refused(3);
+        return Err(Refusal::Yards);
     }
     let farms = hauls::farm_count(sheet, yards);
     if !hauls::hauls_good(sheet, yards, farms) {
-        return Reading::Refused(4);
+        return Err(Refusal::Hauls);
     }
-    Reading::Accepted { yards, farms }
+    Ok(Counts { yards, farms })
 }
 
 // Questions 1 to 4, and 10 after them.
-pub fn form_and_loads_of(sheet: &[u8]) -> Reading
-    ensures { reading_answer result ≡ form_and_loads sheet.now }
+pub fn form_and_loads_of(sheet: &[u8]) -> Result<Counts, Refusal>
+    ensures { answer_of result ≡ form_and_loads sheet.now }
 {
-    match form_of(sheet) {
-        Reading::Accepted { yards, farms } => {
-            if !loads::loads_good(sheet, yards, farms) {
-                return Reading::Refused(10);
-            }
-            Reading::Accepted { yards, farms }
-        }
-        Reading::Refused(number) => Reading::Refused(number),
+    let counts = form_of(sheet)?;
+    if !loads::loads_good(sheet, counts.yards, counts.farms) {
+        return Err(Refusal::Loads);
     }
+    Ok(counts)
 }
 
 // The loads that a byte tells: 0 is read as 1.
 pub fn loads_of(byte3: u8) -> u64
     ensures { result ≡ loads_of byte3 }
 {
-    if byte3 == 0 { 1 } else { byte3 as u64 }
+    u64::from(byte3.max(1))
 }
 
 // Question 2 of one record.
 pub fn well_formed(record: Record) -> bool
     ensures { result ≡ well_formed «record» }
 {
-    let kind = record.kind;
-    match kind {
+    match record.kind {
         KIND_YARD => record.farm == 0 && record.byte3 == 0,
         KIND_HAUL => true,
         _ => false,
@@ -96,7 +93,7 @@ pub fn well_formed(record: Record) -> bool
 fn length_good(sheet: &[u8]) -> bool
     ensures { result ≡ question1 sheet.now }
 {
-    sheet.len() % Record::LEN == 0 && (LEAST_BYTES <= sheet.len() && sheet.len() <= MOST_BYTES)
+    sheet.len() % Record::LEN == 0 && (LEAST_BYTES..=MOST_BYTES).contains(&sheet.len())
 }
 
 // Question 2.
@@ -104,12 +101,5 @@ fn records_good(sheet: &[u8]) -> bool
     ensures { result ≡ question2 sheet.now }
 {
     let n = sheet.len() / Record::LEN;
-    let mut i = 0;
-    while i < n {
-        if !well_formed(Record::at(sheet, i)) {
-            return false;
-        }
-        i += 1;
-    }
-    true
+    (0..n).all(|i| well_formed(Record::at(sheet, i)))
 }

@@ -13,30 +13,15 @@ fn farm_loaded(sheet: &[u8], m: usize, p: usize) -> bool
     ensures { result ≡ farm_loaded sheet.now m p }
 {
     let first = Record::at(sheet, m + p * m);
-    let mut a = 0;
-    while a < m {
+    (0..m).all(|a| {
         let record = Record::at(sheet, m + p * m + a);
-        if record.byte3 != first.byte3 {
-            return false;
-        }
-        if MOST_LOADS < record.byte3 {
-            return false;
-        }
-        a += 1;
-    }
-    true
+        record.byte3 == first.byte3 && record.byte3 <= MOST_LOADS
+    })
 }
 
 pub(crate) fn loads_good(sheet: &[u8], m: usize, n: usize) -> bool
     requires { (8 * (m + n * m) ≤ length sheet.now) × (n ≤ most_farms) }
     ensures { result ≡ all_below n (farm_loaded sheet.now m) }
 {
-    let mut p = 0;
-    while p < n {
-        if !farm_loaded(sheet, m, p) {
-            return false;
-        }
-        p += 1;
-    }
-    true
+    (0..n).all(|p| farm_loaded(sheet, m, p))
 }

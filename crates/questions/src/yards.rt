@@ -12,15 +12,9 @@ pub(crate) fn leading_yards(sheet: &[u8]) -> usize
     ensures { result ≡ yards sheet.now }
 {
     let n = sheet.len() / Record::LEN;
-    let mut i = 0;
-    while i < n {
-        let record = Record::at(sheet, i);
-        if record.kind != KIND_YARD {
-            break;
-        }
-        i += 1;
-    }
-    i
+    (0..n)
+        .position(|i| Record::at(sheet, i).kind != KIND_YARD)
+        .unwrap_or(n)
 }
 
 // The first m records are numbered in order.
@@ -28,15 +22,7 @@ fn all_numbered(sheet: &[u8], m: usize) -> bool
     requires { 8 * m ≤ length sheet.now }
     ensures { result ≡ all_below m (numbered sheet.now) }
 {
-    let mut i = 0;
-    while i < m {
-        let record = Record::at(sheet, i);
-        if record.yard as usize != i {
-            return false;
-        }
-        i += 1;
-    }
-    true
+    (0..m).all(|i| Record::at(sheet, i).yard as usize == i)
 }
 
 // No record after the first m is a yard.
@@ -45,15 +31,7 @@ fn no_yard_after(sheet: &[u8], m: usize) -> bool
     ensures { result ≡ all_below (hauls sheet.now) (no_yard_after sheet.now m) }
 {
     let after = sheet.len() / Record::LEN - m;
-    let mut i = 0;
-    while i < after {
-        let record = Record::at(sheet, m + i);
-        if record.kind == KIND_YARD {
-            return false;
-        }
-        i += 1;
-    }
-    true
+    (0..after).all(|i| Record::at(sheet, m + i).kind != KIND_YARD)
 }
 
 // Question 3, of a sheet with m yard records first.

@@ -1,16 +1,16 @@
 -- Laws of single records: reading one that the bytes hold whole or do not, one among other bytes, one that was written; writing one
 -- that fits or does not.
-use Prim.Native.Nat.{ℕ, suc, ◌+◌, ◌-◌, ◌*◌, ◌/◌, ◌%◌, ◌≤◌, ◌<◌}
+use Prim.Native.Nat.{ℕ, ◌+◌, ◌-◌, ◌*◌, ◌/◌, ◌%◌, ◌≤◌, ◌<◌}
 use native.Mathlib.Nat.{add-zero}
 use native.Mathlib.Omega.{arith}
-use mathlib.Core.Path.{◌≡◌, refl, sym, ap, ◌∙◌}
-use mathlib.Core.List.{List, [], ◌∷◌, ◌++◌}
+use mathlib.Core.Path.{◌≡◌, sym, ap, ◌∙◌}
+use mathlib.Core.List.{List, ◌++◌, append_assoc}
 use borrow.Author.Tests.{le-leb, lt-leb}
-use lib.ListN.{length, get_or, take, drop, set, length-drop, get_or-append}
-use lib.Seq.{get_or-take, get_or-drop, get_or-append-add, length-take-le, sets-eq}
-use Rattle.record.specs.Records.{word, word_bytes, record_of, record_at, whole_record_at, bytes_of, splice, put_at, amount_end, amount_at}
+use lib.ListN.{length, get_or, take, drop, length-drop, get_or-append}
+use borrow.Rule.Slice.PartMut.{put_mid, Post-is}
+use lib.Seq.{get_or-take, get_or-drop, get_or-append-add, length-take-le}
+use Rattle.record.specs.Records.{word, record_of, record_at, whole_record_at, bytes_of, splice, put_at, amount_end, amount_at}
 use Rattle.record.specs.declared.Record.{Record}
-use Rattle.record.proofs.SpliceLaws.{splice_turn}
 
 pub whole : (s : List ℕ) (i : ℕ) → 8 * i + 8 ≤ length s → whole_record_at s i ≡ record_at s i
 unfolding whole_record_at
@@ -125,20 +125,9 @@ pub put_not : (area : List ℕ) (at : ℕ) (r : Record) → length area < at + 8
 unfolding put_at
 put_not area at r h = rw (lt-leb (at + 8) (length area) h)
 
--- four stores in a row are one splice
-pub put4 : (l : List ℕ) (i a b c d : ℕ) → i + 4 ≤ length l
-    → set (set (set (set l i a) (i + 1) b) (i + 2) c) (i + 3) d ≡ splice l i (a ∷ b ∷ c ∷ d ∷ [])
-unfolding splice
-put4 l i a b c d room =
-    let e1 : i + 1 ≡ suc i = omega arith in
-    let e2 : i + 2 ≡ suc (suc i) = omega arith in
-    let e3 : i + 3 ≡ suc (suc (suc i)) = omega arith in
-    rw (e1, e2, e3) (sets-eq (a ∷ b ∷ c ∷ d ∷ []) l i room)
-
--- four stores and the amount behind them are a record
-pub put_record : (l : List ℕ) (i : ℕ) (r : Record) → i + 8 ≤ length l
-    → splice (set (set (set (set l i r.kind) (i + 1) r.yard) (i + 2) r.farm) (i + 3) r.byte3) (i + 4) (word_bytes r.amount) ≡ put_at l i r
-unfolding bytes_of word_bytes
-put_record l i r room =
-    splice_turn l _ i (i + 4) (r.kind ∷ r.yard ∷ r.farm ∷ r.byte3 ∷ []) (word_bytes r.amount) (put4 l i r.kind r.yard r.farm r.byte3 (omega arith)) refl (omega arith)
-    ∙ sym (put_fits l i r room)
+-- eight bytes that are copied are a record
+pub put_copied : (area part : List ℕ) (at : ℕ) (r : Record) → at + 8 ≤ length area → part ≡ bytes_of r → put_mid at (at + 8 - at) area part ≡ put_at area at r
+unfolding splice bytes_of
+put_copied area part at r room e =
+    rw (e, Post-is at (at + 8) area (omega arith), put_fits area at r room)
+    (sym (append_assoc (take at area) (bytes_of r) (drop (at + 8) area)))

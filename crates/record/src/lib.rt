@@ -4,8 +4,8 @@
 
 #![tactic(auto)]
 
-ghost use Rattle.std.specs.Prelude.{◌≡◌, ◌+◌, ◌≤◌, length};
-ghost use Rattle.record.specs.Records.{word, word_bytes, record_of, whole_record_at, splice, put_at};
+ghost use Rattle.std.specs.Prelude.{◌≡◌};
+ghost use Rattle.record.specs.Records.{record_of, whole_record_at, put_at};
 
 #[derive(Clone, Copy)]
 pub struct Record {
@@ -40,7 +40,7 @@ impl Record {
             return Record::new(0, 0, 0, 0, 0);
         }
         let b = Record::LEN * i;
-        let amount = word32(bytes[b + 4], bytes[b + 5], bytes[b + 6], bytes[b + 7]);
+        let amount = u32::from_le_bytes([bytes[b + 4], bytes[b + 5], bytes[b + 6], bytes[b + 7]]);
         Record::new(bytes[b], bytes[b + 1], bytes[b + 2], bytes[b + 3], amount)
     }
 
@@ -54,28 +54,8 @@ impl Record {
         if area.len() - Record::LEN < at {
             return;
         }
-        area[at] = self.kind;
-        area[at + 1] = self.yard;
-        area[at + 2] = self.farm;
-        area[at + 3] = self.byte3;
-        put_word(area, at + 4, self.amount);
+        let [a, b, c, d] = self.amount.to_le_bytes();
+        let bytes = [self.kind, self.yard, self.farm, self.byte3, a, b, c, d];
+        area[at..at + Record::LEN].copy_from_slice(&bytes);
     }
-}
-
-// Four bytes, lowest first.
-fn word32(a: u8, b: u8, c: u8, d: u8) -> u32
-    ensures { result ≡ word a b c d }
-{
-    (a as u32) + 256 * (b as u32) + 65536 * (c as u32) + 16777216 * (d as u32)
-}
-
-// Writes a number in four bytes, lowest first.
-fn put_word(area: &mut [u8], at: usize, value: u32)
-    requires { at + 4 ≤ length area.old }
-    ensures { area.new ≡ splice area.old at (word_bytes value) }
-{
-    area[at] = (value % 256) as u8;
-    area[at + 1] = (value / 256 % 256) as u8;
-    area[at + 2] = (value / 65536 % 256) as u8;
-    area[at + 3] = (value / 16777216 % 256) as u8;
 }

@@ -1,6 +1,7 @@
 -- Laws of the calls' answers, case by case.
-use Rattle.std.proofs.Common.{◌≡◌, ℕ, ◌+◌, ◌<◌, ◌≤◌, true, false, leb, List, length, sym, refl, ap, ◌∙◌, arith, le-leb, leb-true}
+use Rattle.std.proofs.Common.{◌≡◌, ℕ, ◌+◌, ◌<◌, ◌≤◌, true, false, ◌&&◌, leb, List, length, sym, refl, ap, ◌∙◌, arith, le-leb, leb-true}
 use borrow.Author.Tests.{lt-leb}
+use Rattle.model.proofs.Bools.{and_left, and_right}
 use Rattle.rows.specs.Shifts.{columns, fits, above_at, between_at, raised, lowered, shifted, two_fit, shifted_in, shifted_out}
 
 -- ---- room
@@ -53,10 +54,25 @@ module _ (costs : List ℕ) (sums : List ℕ) (added more : ℕ) where
   unfolding two_fit
   two_overlap r e = rw (le-leb columns (length costs) r, e)
 
-  pub two_lack_room : columns ≤ length costs → fits added more ≡ true → fits more (length sums) ≡ false
-      → two_fit costs sums added more ≡ false
+  -- the tests made one after the other
+  pub two_is : columns ≤ length costs → fits added more ≡ true → two_fit costs sums added more ≡ fits more (length sums)
   unfolding two_fit
-  two_lack_room r a e = rw (le-leb columns (length costs) r, a, e)
+  two_is r a = rw (le-leb columns (length costs) r, a)
+
+  -- where both have room
+  pub record Room : Type 0 where
+    pub row : columns ≤ length costs
+    pub apart : added + columns ≤ more
+    pub room : more + columns ≤ length sums
+
+  pub two_room : two_fit costs sums added more ≡ true → Room
+  unfolding two_fit
+  two_room e = let b = and_right (leb columns (length costs)) (fits added more && fits more (length sums)) e in
+      record {
+        row = leb-true columns (length costs) (and_left (leb columns (length costs)) _ e);
+        apart = fits_true added more (and_left (fits added more) (fits more (length sums)) b);
+        room = fits_true more (length sums) (and_right (fits added more) (fits more (length sums)) b);
+      }
 
   pub two_fit_lem : columns ≤ length costs → fits added more ≡ true → fits more (length sums) ≡ true
       → two_fit costs sums added more ≡ true

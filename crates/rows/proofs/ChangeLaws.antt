@@ -7,9 +7,6 @@ use Rattle.rows.specs.Shifts.{change_at, changed, FrontHolds}
 
 -- ---- a turn
 
-pub front_none : (f : ℕ → ℕ) (table : List ℕ) → FrontHolds 0 f table
-front_none f table i l = absurd (not-suc-le-zero l)
-
 pub front_more : (f : ℕ → ℕ) (i x : ℕ) (table : List ℕ) → i < length table → x ≡ f i → FrontHolds i f table → FrontHolds (i + 1) f (set table i x)
 front_more f i x table room is done k l =
     up_to (λ k. get_or (set table i x) k 0 ≡ f k) i

@@ -1,16 +1,44 @@
 // Sums that rise and fall by what the costs of a row are above one cost and not above another.
 //
 // What a sum changes by is put into a row of its own first: the compiler does four columns of that loop at a time, where the sums of 64 bits
-// would leave it two. The loops that change sums stand in one function with that row, so that the compiler sees that it is no part of the sums.
+// would leave it two. The functions with loops are put into their callers, so that the compiler sees that the row is no part of the sums.
 
 #![tactic(auto)]
 
-ghost use Rattle.std.specs.Prelude.{◌≡◌, ◌+◌, ◌≤◌, length};
-ghost use Rattle.rows.specs.Shifts.{columns, fits, above, FrontHolds, above_at, between_at, raised, lowered, shifted, shifted_in, shifted_out};
+ghost use Rattle.std.specs.Prelude.{◌≡◌, ℕ, ◌+◌, ◌≤◌, length};
+ghost use Rattle.rows.specs.Shifts.{columns, fits, FrontHolds, above, above_at, between_at, changed, rise, fall, shifted, two_fit, shifted_in, shifted_out};
 
 pub const COLUMNS: usize = 32;
 
 const HALF: u32 = 2147483648;
+
+// What becomes of a sum that takes a number on, or gives it.
+trait Way {
+    ghost changes: { (ℕ → ℕ) → ℕ → ℕ → ℕ };
+
+    fn change(sum: u64, by: u64) -> u64
+        ensures { (f : ℕ → ℕ) (i : ℕ) → by ≡ f i → result ≡ changes f i sum };
+}
+
+struct Rise;
+
+impl Way for Rise {
+    ghost changes = { rise };
+
+    fn change(sum: u64, by: u64) -> u64 {
+        sum.wrapping_add(by)
+    }
+}
+
+struct Fall;
+
+impl Way for Fall {
+    ghost changes = { fall };
+
+    fn change(sum: u64, by: u64) -> u64 {
+        sum.wrapping_sub(by)
+    }
+}
 
 // Do the columns from a place on end by another one?
 fn columns_fit(from: usize, end: usize) -> bool
@@ -19,68 +47,46 @@ fn columns_fit(from: usize, end: usize) -> bool
     from <= usize::MAX - COLUMNS && from + COLUMNS <= end
 }
 
+// Is there room for the row, and for two stretches of sums, the first of which ends by the second?
+fn both_fit(costs: &[u32], sums: &[u64], added: usize, more: usize) -> bool
+    ensures { result ≡ two_fit costs.now sums.now added more }
+{
+    COLUMNS <= costs.len() && columns_fit(added, more) && columns_fit(more, sums.len())
+}
+
 // What a cost is above another one. The compiler makes a comparison of signed numbers of this, which every x86-64 processor does by vector.
 fn over(cost: u32, other: u32) -> u32
     ensures { result ≡ above cost other }
 {
-    let difference = std::num::wrapping_sub_u32(cost, other);
+    let difference = cost.wrapping_sub(other);
     if difference < HALF { difference } else { 0 }
 }
 
-// What each cost of a row is above `low` and not above `high`.
-fn differences(costs: &[u32], low: u32, high: u32, by: &mut [u32])
-    requires { (columns ≤ length costs.now) × (columns ≤ length by.old) }
-    ensures { FrontHolds columns (between_at costs.now low high) by.new }
+// What each cost of a row is above `low`, and the part of it that is not above `high`.
+#[inline(always)]
+fn differences(costs: &[u32], low: u32, high: u32) -> ([u32; COLUMNS], [u32; COLUMNS])
+    requires { columns ≤ length costs.now }
+    ensures whole { FrontHolds columns (above_at costs.now low) result.0 }
+    ensures part { FrontHolds columns (between_at costs.now low high) result.1 }
 {
-    let mut i = 0;
-    while i < COLUMNS {
-        let cost = costs[i];
-        by[i] = std::num::wrapping_sub_u32(over(cost, low), over(cost, high));
-        i += 1;
+    let mut whole = [0u32; COLUMNS];
+    let mut part = [0u32; COLUMNS];
+    for i in 0..COLUMNS {
+        let over_low = over(costs[i], low);
+        whole[i] = over_low;
+        part[i] = over_low.wrapping_sub(over(costs[i], high));
     }
+    (whole, part)
 }
 
-// What each cost of a row is above `first`, and the part of it that is not above `second`.
-fn both_differences(costs: &[u32], first: u32, second: u32, whole: &mut [u32], part: &mut [u32])
-    requires { (columns ≤ length costs.now) × (columns ≤ length whole.old) × (columns ≤ length part.old) }
-    ensures whole { FrontHolds columns (above_at costs.now first) whole.new }
-    ensures part { FrontHolds columns (between_at costs.now first second) part.new }
+// Changes the sums from a place on, each by the number of its column.
+#[inline(always)]
+fn change<W: Way>(by: &[u32; COLUMNS], sums: &mut [u64], at: usize)
+    requires { at + columns ≤ length sums.old }
+    ensures { (f : ℕ → ℕ) → FrontHolds columns f by.now → sums.new ≡ changed (W.changes f) at sums.old }
 {
-    let mut i = 0;
-    while i < COLUMNS {
-        let cost = costs[i];
-        let over_first = over(cost, first);
-        whole[i] = over_first;
-        part[i] = std::num::wrapping_sub_u32(over_first, over(cost, second));
-        i += 1;
-    }
-}
-
-// Raises the sums from a place on by what the costs of a row are above `low` and not above `high`.
-fn raise(costs: &[u32], low: u32, high: u32, sums: &mut [u64], at: usize)
-    requires { (columns ≤ length costs.now) × (at + columns ≤ length sums.old) }
-    ensures { sums.new ≡ raised (between_at costs.now low high) at sums.old }
-{
-    let mut by = [0u32; COLUMNS];
-    differences(costs, low, high, &mut by);
-    let mut i = 0;
-    while i < COLUMNS {
-        sums[at + i] = std::num::wrapping_add_u64(sums[at + i], by[i] as u64);
-        i += 1;
-    }
-}
-
-// Lowers them.
-fn lower(costs: &[u32], low: u32, high: u32, sums: &mut [u64], at: usize)
-    requires { (columns ≤ length costs.now) × (at + columns ≤ length sums.old) }
-    ensures { sums.new ≡ lowered (between_at costs.now low high) at sums.old }
-{
-    let mut by = [0u32; COLUMNS];
-    differences(costs, low, high, &mut by);
-    let mut i = 0;
-    while i < COLUMNS {
-        sums[at + i] = std::num::wrapping_sub_u64(sums[at + i], by[i] as u64);
-        i += 1;
+    for i in 0..COLUMNS {
+        sums[at + i] = W::change(sums[at + i], by[i] as u64);
     }
 }
 
@@ -95,10 +101,32 @@ pub fn shift(costs: &[u32], plus: u32, minus: u32, sums: &mut [u64], at: usize)
         return;
     }
     if plus <= minus {
-        raise(costs, plus, minus, sums, at);
+        let (_, by) = differences(costs, plus, minus);
+        change::<Rise>(&by, sums, at);
     } else {
-        lower(costs, minus, plus, sums, at);
+        let (_, by) = differences(costs, minus, plus);
+        change::<Fall>(&by, sums, at);
     }
+}
+
+// Changes two stretches of sums: one way those from `added` on, by what the row is above `first`, and another way those from `more` on,
+// which lie behind them, by what it is above `first` and not above `second`.
+fn count<A: Way, B: Way>(
+    costs: &[u32],
+    first: u32,
+    second: u32,
+    sums: &mut [u64],
+    added: usize,
+    more: usize,
+)
+    requires row { columns ≤ length costs.now }
+    requires apart { added + columns ≤ more }
+    requires room { more + columns ≤ length sums.old }
+    ensures { sums.new ≡ changed (B.changes (between_at costs.now first second)) more (changed (A.changes (above_at costs.now first)) added sums.old) }
+{
+    let (whole, part) = differences(costs, first, second);
+    change::<A>(&whole, sums, added);
+    change::<B>(&part, sums, more);
 }
 
 // Counts a client in by its two nearest costs: the sums from `added` on fall by what its row is above the first, and those from `more` on,
@@ -106,27 +134,8 @@ pub fn shift(costs: &[u32], plus: u32, minus: u32, sums: &mut [u64], at: usize)
 pub fn shift_in(costs: &[u32], first: u32, second: u32, sums: &mut [u64], added: usize, more: usize)
     ensures { sums.new ≡ shifted_in costs.now first second sums.old added more }
 {
-    if costs.len() < COLUMNS {
-        return;
-    }
-    if !columns_fit(added, more) {
-        return;
-    }
-    if !columns_fit(more, sums.len()) {
-        return;
-    }
-    let mut whole = [0u32; COLUMNS];
-    let mut part = [0u32; COLUMNS];
-    both_differences(costs, first, second, &mut whole, &mut part);
-    let mut i = 0;
-    while i < COLUMNS {
-        sums[added + i] = std::num::wrapping_sub_u64(sums[added + i], whole[i] as u64);
-        i += 1;
-    }
-    let mut k = 0;
-    while k < COLUMNS {
-        sums[more + k] = std::num::wrapping_add_u64(sums[more + k], part[k] as u64);
-        k += 1;
+    if both_fit(costs, sums, added, more) {
+        count::<Fall, Rise>(costs, first, second, sums, added, more);
     }
 }
 
@@ -141,26 +150,7 @@ pub fn shift_out(
 )
     ensures { sums.new ≡ shifted_out costs.now first second sums.old added more }
 {
-    if costs.len() < COLUMNS {
-        return;
-    }
-    if !columns_fit(added, more) {
-        return;
-    }
-    if !columns_fit(more, sums.len()) {
-        return;
-    }
-    let mut whole = [0u32; COLUMNS];
-    let mut part = [0u32; COLUMNS];
-    both_differences(costs, first, second, &mut whole, &mut part);
-    let mut i = 0;
-    while i < COLUMNS {
-        sums[added + i] = std::num::wrapping_add_u64(sums[added + i], whole[i] as u64);
-        i += 1;
-    }
-    let mut k = 0;
-    while k < COLUMNS {
-        sums[more + k] = std::num::wrapping_sub_u64(sums[more + k], part[k] as u64);
-        k += 1;
+    if both_fit(costs, sums, added, more) {
+        count::<Rise, Fall>(costs, first, second, sums, added, more);
     }
 }

@@ -1,5 +1,3 @@
--- SheetTableLaws: the tables that a sheet is read into. PlanningLaws: the cases of the two plans.
--- PromiseLaws: "no move left" and demand 3.
-pub mod SheetTableLaws
+-- PlanningLaws: the two plans are searches without a limit on moves. PromiseLaws: "no move left" and demand 3.
 pub mod PlanningLaws
 pub mod PromiseLaws

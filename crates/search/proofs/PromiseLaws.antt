@@ -19,8 +19,11 @@ use Rattle.model.specs.Answers.{accepted}
 use Rattle.questions.specs.Sheet.{yards, farm_byte, instance_of, instance_by}
 use Rattle.questions.specs.Reading.{counts, reading}
 use Rattle.questions.proofs.AcceptedLaws.{WithinBounds, door, facilities_are, facilities_read}
-use Rattle.price.specs.Pricing.{Plan, planned_answer, answer, area_after, OfPlan}
-use Rattle.price.specs.declared.Planned.{Planned}
+use Rattle.refusal.specs.Numbers.{answer_of}
+use Rattle.price.specs.Pricing.{Plan, answer, area_after, OfPlan}
+use Rattle.std.specs.Prelude.{Result}
+use Rattle.refusal.specs.declared.Refusal.{Refusal}
+use Rattle.price.specs.declared.Written.{Written}
 use Rattle.price.proofs.OfPlanLaws.{PlanOf, of_plan}
 use Rattle.plan_area.proofs.PlanFarmLaws.{FarmsSent, farms_sent}
 use Rattle.search.specs.SearchEnds.{settled_at, open_end, limited_end, plan_of}
@@ -102,8 +105,8 @@ limited_plan_of s k room p e = let h = limited_when s k room p e in
 
 -- ---- the promises of the calls
 
-module _ (s : List ℕ) (r : Planned) (area next : List ℕ) where
-  module _ (says : planned_answer r ≡ answer (open_planning s (length area))) (leaves : next ≡ area_after (open_planning s (length area)) area) where
+module _ (s : List ℕ) (r : Result Written Refusal) (area next : List ℕ) where
+  module _ (says : answer_of r ≡ answer (open_planning s (length area))) (leaves : next ≡ area_after (open_planning s (length area)) area) where
     -- what holds of the set that the search ends in, and of the area with its plan
     open_of : (P : ℕ → Type 0)
         → (WithinBounds (instance_of s) → next ≡ area_after (accepted (open_plan (instance_of s) (farm_byte s (yards s)))) area → P (open_search (instance_of s) (open_start (instance_of s))).set)
@@ -125,7 +128,7 @@ module _ (s : List ℕ) (r : Planned) (area next : List ℕ) where
     open_sends =
         open_of (FarmsSent s next) (λ w there. farms_sent s w _ _ _ (open_plan_keeps (instance_of s) w.some_facilities).1 area next there)
 
-  module _ (k : ℕ) (says : planned_answer r ≡ answer (limited_planning s k (length area)))
+  module _ (k : ℕ) (says : answer_of r ≡ answer (limited_planning s k (length area)))
       (leaves : next ≡ area_after (limited_planning s k (length area)) area) where
     limited_of : (P : ℕ → Type 0)
         → (WithinBounds (instance_of s) → 1 ≤ k → k ≤ (instance_of s).facilities → next ≡ area_after (accepted (limited_plan (instance_of s) (farm_byte s (yards s)) k)) area
@@ -154,13 +157,13 @@ module _ (s : List ℕ) (r : Planned) (area next : List ℕ) where
         (any_counted (instance_of s).facilities _ (omega (arith, (limited_plan_keeps (instance_of s) k few).1))) area next there)
 
   -- all that the calls promise, from their two equations
-  pub open_promises : (planned_answer r ≡ answer (open_planning s (length area))) × (next ≡ area_after (open_planning s (length area)) area)
-      → (planned_answer r ≡ answer (open_planning s (length area))) × ((next ≡ area_after (open_planning s (length area)) area)
+  pub open_promises : (answer_of r ≡ answer (open_planning s (length area))) × (next ≡ area_after (open_planning s (length area)) area)
+      → (answer_of r ≡ answer (open_planning s (length area))) × ((next ≡ area_after (open_planning s (length area)) area)
       × (OpenPlanSettled s r next × OpenPlanBounded s r next))
   open_promises h = (h.0, (h.1, (open_settled h.0 h.1, open_bounded h.0 h.1)))
 
   pub limited_promises : (k : ℕ)
-      → (planned_answer r ≡ answer (limited_planning s k (length area))) × (next ≡ area_after (limited_planning s k (length area)) area)
-      → (planned_answer r ≡ answer (limited_planning s k (length area))) × ((next ≡ area_after (limited_planning s k (length area)) area)
+      → (answer_of r ≡ answer (limited_planning s k (length area))) × (next ≡ area_after (limited_planning s k (length area)) area)
+      → (answer_of r ≡ answer (limited_planning s k (length area))) × ((next ≡ area_after (limited_planning s k (length area)) area)
       × (LimitedPlanSized s k r next × (LimitedPlanSettled s r next × LimitedPlanBounded s k r next)))
   limited_promises k h = (h.0, (h.1, (limited_sized k h.0 h.1, (limited_settled k h.0 h.1, limited_bounded k h.0 h.1))))

@@ -1,7 +1,7 @@
 -- What a buyer looks for in a plan, in readable words: that a limited list has the number of yards asked for, that no move is left
 -- which lowers its cost, and demand 3 of the letter. All are said of the set that is read off the records of kind 4F in the area at
 -- exit (`OfPlan`); both buyers are priced by the costs of the sheet's instance, never by the printed total.
-use Rattle.std.specs.Prelude.{ℕ, ◌+◌, ◌*◌, ◌≤◌, ◌≡◌, Bool, true, List}
+use Rattle.std.specs.Prelude.{ℕ, ◌+◌, ◌*◌, ◌≤◌, ◌≡◌, Bool, true, List, Result}
 use Rattle.model.specs.Least.{any}
 use Rattle.model.specs.Sets.{count, member}
 use Rattle.model.specs.Instance.{Instance, opening_cost, service_cost, total_cost}
@@ -10,7 +10,8 @@ use Rattle.model.specs.Search.{NoLower}
 use Rattle.model.specs.Plans.{open_cost, limited_cost}
 use Rattle.questions.specs.Sheet.{yards, instance_of}
 use Rattle.price.specs.Pricing.{OfPlan}
-use Rattle.price.specs.declared.Planned.{Planned}
+use Rattle.refusal.specs.declared.Refusal.{Refusal}
+use Rattle.price.specs.declared.Written.{Written}
 
 -- ---- "the limited list, for a set number of yards"
 
@@ -18,7 +19,7 @@ use Rattle.price.specs.declared.Planned.{Planned}
 abbrev pub OfSize : List ℕ → ℕ → ℕ → Type 0
 OfSize s k set = count (yards s) (member set) ≡ k
 
-abbrev pub LimitedPlanSized : List ℕ → ℕ → Planned → List ℕ → Type 0
+abbrev pub LimitedPlanSized : List ℕ → ℕ → Result Written Refusal → List ℕ → Type 0
 LimitedPlanSized s k r area = OfPlan r area (OfSize s k)
 
 -- ---- "no move left that lowers it" (demand 2)
@@ -27,14 +28,14 @@ LimitedPlanSized s k r area = OfPlan r area (OfSize s k)
 abbrev pub NoOpenMove : List ℕ → ℕ → Type 0
 NoOpenMove s set = NoLower (open_cost (instance_of s)) (add_drop_swap (yards s) set) set
 
-abbrev pub OpenPlanSettled : List ℕ → Planned → List ℕ → Type 0
+abbrev pub OpenPlanSettled : List ℕ → Result Written Refusal → List ℕ → Type 0
 OpenPlanSettled s r area = OfPlan r area (NoOpenMove s)
 
 -- no set that one swap makes of it has a lower haul cost
 abbrev pub NoLimitedMove : List ℕ → ℕ → Type 0
 NoLimitedMove s set = NoLower (limited_cost (instance_of s)) (swaps (yards s) set) set
 
-abbrev pub LimitedPlanSettled : List ℕ → Planned → List ℕ → Type 0
+abbrev pub LimitedPlanSettled : List ℕ → Result Written Refusal → List ℕ → Type 0
 LimitedPlanSettled s r area = OfPlan r area (NoLimitedMove s)
 
 -- ---- demand 3
@@ -49,7 +50,7 @@ pub record OpenBound (I : Instance) (ours rival : ℕ → Bool) : Type 0 where
 abbrev pub BoundedByRivals : List ℕ → ℕ → Type 0
 BoundedByRivals s set = (rival : ℕ → Bool) → any (yards s) rival ≡ true → OpenBound (instance_of s) (member set) rival
 
-abbrev pub OpenPlanBounded : List ℕ → Planned → List ℕ → Type 0
+abbrev pub OpenPlanBounded : List ℕ → Result Written Refusal → List ℕ → Type 0
 OpenPlanBounded s r area = OfPlan r area (BoundedByRivals s)
 
 -- "Whatever non-empty set of at most k yards the rival rents, the hauls of our limited list for that k are at most five times the
@@ -59,5 +60,5 @@ BoundedByRivalsOf s k set =
     (rival : ℕ → Bool) → any (yards s) rival ≡ true → count (yards s) rival ≤ k
     → service_cost (instance_of s) (member set) ≤ 5 * service_cost (instance_of s) rival
 
-abbrev pub LimitedPlanBounded : List ℕ → ℕ → Planned → List ℕ → Type 0
+abbrev pub LimitedPlanBounded : List ℕ → ℕ → Result Written Refusal → List ℕ → Type 0
 LimitedPlanBounded s k r area = OfPlan r area (BoundedByRivalsOf s k)

@@ -4,7 +4,12 @@ use Rattle.model.specs.Instance.{Instance}
 use Rattle.model.specs.Search.{Reached}
 use Rattle.model.specs.Plans.{open_cost, open_start, open_search, limited_cost, limited_start, limited_search}
 use Rattle.price.specs.Pricing.{Plan, plan}
-use Rattle.search.specs.declared.planning.Settled.{Settled}
+
+-- where a search ends: the set, its cost, and the moves made
+pub record Settled : Type 0 where
+  pub set : ℕ
+  pub cost : ℕ
+  pub moves : ℕ
 
 -- what a search reached, with the cost of its set
 unfoldable pub settled_at : (ℕ → ℕ) → Reached → Settled

@@ -7,10 +7,11 @@
 #![tactic(auto)]
 
 ghost use Rattle.std.specs.Prelude.{◌≡◌};
-ghost use Rattle.plan_search.specs.Planning.{searched_answer};
+ghost use Rattle.plan_search.specs.Planning.{searched_by};
 ghost use Rattle.search_numbers.specs.SearchNumbers.{searched_number};
 
 use plan_search::Searched;
+use refusal::Numbered;
 
 // What the parts of a number count for that begin at bit 8, at bit 31 and at bit 32; and how many bytes there are at most.
 const BIT_8: u64 = 256;
@@ -21,20 +22,16 @@ const BIT_32: u64 = 4294967296;
 
 const BYTES_END: u64 = 8388608;
 
-pub fn searched_number(searched: Searched) -> u64
-    ensures { result ≡ searched_number (searched_answer searched) }
+pub fn searched_number<E: Numbered>(searched: Result<Searched, E>) -> u64
+    ensures { result ≡ searched_number (searched_by E.number searched) }
 {
     match searched {
-        Searched::Settled {
-            set: _,
-            bytes,
-            moves,
-        } => { (bytes as u64) % BYTES_END * BIT_8 + (moves as u64) * BIT_32 }
-        Searched::Stopped {
-            set: _,
-            bytes,
-            moves,
-        } => { (bytes as u64) % BYTES_END * BIT_8 + BIT_31 + (moves as u64) * BIT_32 }
-        Searched::Refused(number) => number as u64,
+        Ok(Searched::Settled { bytes, moves, .. }) => {
+            (bytes as u64) % BYTES_END * BIT_8 + (moves as u64) * BIT_32
+        }
+        Ok(Searched::Stopped { bytes, moves, .. }) => {
+            (bytes as u64) % BYTES_END * BIT_8 + BIT_31 + (moves as u64) * BIT_32
+        }
+        Err(refusal) => refusal.number() as u64,
     }
 }

@@ -29,6 +29,8 @@ use Rattle.plan_search.specs.declared.PlanKind.{PlanKind}
 use Rattle.plan_search.specs.declared.PlanKind.TheVariants.{Open, Limited}
 use Rattle.starts.specs.declared.PlanStart.{PlanStart}
 use Rattle.starts.specs.declared.PlanStart.TheVariants.{First, Given}
+use Rattle.std.specs.Prelude.{Result}
+use Rattle.refusal.specs.declared.Refusal.{Refusal}
 use Rattle.plan_search.specs.declared.Searched.{Searched}
 use Rattle.starts.proofs.StartLaws.{start_good, first_within}
 use Rattle.plan_search.proofs.OutcomeLaws.{first_set, outcome_keeps, outcome_not_dearer, outcome_settled, outcome_after, outcome_left}
@@ -131,7 +133,7 @@ module _ (limit : ℕ) (s : List ℕ) (room : ℕ) (p : SearchPlan) where
 
 -- ---- the promises, on a sheet
 
-module _ (kind : PlanKind) (start : PlanStart) (limit : ℕ) (s : List ℕ) (r : Searched) (area next : List ℕ)
+module _ (kind : PlanKind) (start : PlanStart) (limit : ℕ) (s : List ℕ) (r : Result Searched Refusal) (area next : List ℕ)
     (says : searched_answer r ≡ search_answer (search_planning kind start limit s (length area)))
     (leaves : next ≡ area_after (plan_left (search_planning kind start limit s (length area))) area) where
   search_settled : SettledBy kind s r next
@@ -162,7 +164,7 @@ module _ (kind : PlanKind) (start : PlanStart) (limit : ℕ) (s : List ℕ) (r :
 
 -- ---- and by a tariff, on the sheet of hauls
 
-module _ (kind : PlanKind) (start : PlanStart) (limit : ℕ) (choice : TariffChoice) (tariff s : List ℕ) (r : Searched) (area next : List ℕ)
+module _ (kind : PlanKind) (start : PlanStart) (limit : ℕ) (choice : TariffChoice) (tariff s : List ℕ) (r : Result Searched Refusal) (area next : List ℕ)
     (says : searched_answer r ≡ search_answer (search_planning_by kind start limit choice tariff s (length area)))
     (leaves : next ≡ area_after (plan_left (search_planning_by kind start limit choice tariff s (length area))) area) where
   -- what follows from the equations on a sheet holds on the sheet of hauls
@@ -189,12 +191,12 @@ module _ (kind : PlanKind) (start : PlanStart) (limit : ℕ) (choice : TariffCho
 
 -- ---- all that each call promises, from its two equations
 
-abbrev pub Equations : PlanKind → PlanStart → ℕ → TariffChoice → List ℕ → List ℕ → Searched → List ℕ → List ℕ → Type 0
+abbrev pub Equations : PlanKind → PlanStart → ℕ → TariffChoice → List ℕ → List ℕ → Result Searched Refusal → List ℕ → List ℕ → Type 0
 Equations kind start limit choice tariff s r area next =
     (searched_answer r ≡ search_answer (search_planning_by kind start limit choice tariff s (length area)))
     × (next ≡ area_after (plan_left (search_planning_by kind start limit choice tariff s (length area))) area)
 
-module _ (start : PlanStart) (limit : ℕ) (choice : TariffChoice) (tariff s : List ℕ) (r : Searched) (area next : List ℕ) where
+module _ (start : PlanStart) (limit : ℕ) (choice : TariffChoice) (tariff s : List ℕ) (r : Result Searched Refusal) (area next : List ℕ) where
   pub open_promises : (e : Equations Open start limit choice tariff s r area next)
       → (searched_answer r ≡ search_answer (search_planning_by Open start limit choice tariff s (length area)))
       × ((next ≡ area_after (plan_left (search_planning_by Open start limit choice tariff s (length area))) area)

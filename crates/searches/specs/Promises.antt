@@ -11,11 +11,13 @@ use Rattle.plan_search.specs.Kinds.{cost_by_kind, moves_by}
 use Rattle.plan_search.specs.Planning.{OfSettled, OfStopped}
 use Rattle.plan_search.specs.declared.PlanKind.{PlanKind}
 use Rattle.starts.specs.declared.PlanStart.{PlanStart}
+use Rattle.std.specs.Prelude.{Result}
+use Rattle.refusal.specs.declared.Refusal.{Refusal}
 use Rattle.plan_search.specs.declared.Searched.{Searched}
 use Rattle.search.specs.Promises.{OfSize, BoundedByRivals, BoundedByRivalsOf}
 
 -- what holds of the set in the area, settled or stopped
-abbrev pub OfSearched : Searched → List ℕ → (ℕ → Type 0) → Type 0
+abbrev pub OfSearched : Result Searched Refusal → List ℕ → (ℕ → Type 0) → Type 0
 OfSearched r area P = OfSettled r area P × OfStopped r area P
 
 -- the set that a search of the sheet begins at
@@ -27,7 +29,7 @@ beginning kind start s = start_by start (cost_by_kind kind (instance_of s)) (yar
 abbrev pub NoMoveBy : PlanKind → List ℕ → ℕ → Type 0
 NoMoveBy kind s set = NoLower (cost_by_kind kind (instance_of s)) (moves_by kind (yards s) set) set
 
-abbrev pub SettledBy : PlanKind → List ℕ → Searched → List ℕ → Type 0
+abbrev pub SettledBy : PlanKind → List ℕ → Result Searched Refusal → List ℕ → Type 0
 SettledBy kind s r area = OfSettled r area (NoMoveBy kind s)
 
 -- ---- stopped: after that many moves of the search, where "another move would lower the cost"
@@ -46,7 +48,7 @@ pub record StoppedAfter (kind : PlanKind) (start : PlanStart) (limit : ℕ) (s :
   pub after : set ≡ after_moves kind start limit s
   pub left : MoveLeft kind s set
 
-abbrev pub StoppedBy : PlanKind → PlanStart → ℕ → List ℕ → Searched → List ℕ → Type 0
+abbrev pub StoppedBy : PlanKind → PlanStart → ℕ → List ℕ → Result Searched Refusal → List ℕ → Type 0
 StoppedBy kind start limit s r area = OfStopped r area (StoppedAfter kind start limit s)
 
 -- ---- never dearer than the start, by that cost
@@ -54,18 +56,18 @@ StoppedBy kind start limit s r area = OfStopped r area (StoppedAfter kind start 
 abbrev pub NoDearerThanStart : PlanKind → PlanStart → List ℕ → ℕ → Type 0
 NoDearerThanStart kind start s set = cost_by_kind kind (instance_of s) set ≤ cost_by_kind kind (instance_of s) (beginning kind start s)
 
-abbrev pub NotDearerBy : PlanKind → PlanStart → List ℕ → Searched → List ℕ → Type 0
+abbrev pub NotDearerBy : PlanKind → PlanStart → List ℕ → Result Searched Refusal → List ℕ → Type 0
 NotDearerBy kind start s r area = OfSearched r area (NoDearerThanStart kind start s)
 
 -- ---- a limited list keeps its count of yards
 
-abbrev pub LimitedSearchSized : List ℕ → ℕ → Searched → List ℕ → Type 0
+abbrev pub LimitedSearchSized : List ℕ → ℕ → Result Searched Refusal → List ℕ → Type 0
 LimitedSearchSized s k r area = OfSearched r area (OfSize s k)
 
 -- ---- demand 3
 
-abbrev pub OpenSearchBounded : List ℕ → Searched → List ℕ → Type 0
+abbrev pub OpenSearchBounded : List ℕ → Result Searched Refusal → List ℕ → Type 0
 OpenSearchBounded s r area = OfSettled r area (BoundedByRivals s)
 
-abbrev pub LimitedSearchBounded : List ℕ → ℕ → Searched → List ℕ → Type 0
+abbrev pub LimitedSearchBounded : List ℕ → ℕ → Result Searched Refusal → List ℕ → Type 0
 LimitedSearchBounded s k r area = OfSettled r area (BoundedByRivalsOf s k)

@@ -17,20 +17,21 @@ ghost use Rattle.plan_search.specs.Planning.{searched_answer, search_answer, pla
 ghost use Rattle.searches.specs.SearchingBy.{search_planning_by};
 ghost use Rattle.searches.specs.Promises.{SettledBy, StoppedBy, NotDearerBy, OpenSearchBounded, LimitedSearchSized, LimitedSearchBounded};
 
-use distances::HaulSheet;
 use plan_search::{PlanKind, Searched};
+use refusal::Refusal;
 use sheet::MOST_BYTES;
 use starts::PlanStart;
 use tariff::TariffChoice;
 
 // The open search, from the single yard of least full cost.
+// stay four calls: each is public, with parameters and promises of its own, and all are `search_by` with a kind and a start
 pub fn open_search(
     sheet: &[u8],
     choice: TariffChoice,
     tariff: &[u8],
     limit: u64,
     area: &mut [u8],
-) -> Searched
+) -> Result<Searched, Refusal>
     ensures answer { searched_answer result ≡ search_answer (search_planning_by Open Cheapest limit choice tariff.now sheet.now (length area.old)) }
     ensures area { area.new ≡ area_after (plan_left (search_planning_by Open Cheapest limit choice tariff.now sheet.now (length area.old))) area.old }
     ensures settled { OnHauls (sheet_by choice tariff.now sheet.now) (λ h. SettledBy Open h result area.new) }
@@ -57,7 +58,7 @@ pub fn open_search_from(
     start: u32,
     limit: u64,
     area: &mut [u8],
-) -> Searched
+) -> Result<Searched, Refusal>
     ensures answer { searched_answer result ≡ search_answer (search_planning_by Open (Given start) limit choice tariff.now sheet.now (length area.old)) }
     ensures area { area.new ≡ area_after (plan_left (search_planning_by Open (Given start) limit choice tariff.now sheet.now (length area.old))) area.old }
     ensures settled { OnHauls (sheet_by choice tariff.now sheet.now) (λ h. SettledBy Open h result area.new) }
@@ -84,7 +85,7 @@ pub fn limited_search(
     k: usize,
     limit: u64,
     area: &mut [u8],
-) -> Searched
+) -> Result<Searched, Refusal>
     ensures answer { searched_answer result ≡ search_answer (search_planning_by Limited (First k) limit choice tariff.now sheet.now (length area.old)) }
     ensures area { area.new ≡ area_after (plan_left (search_planning_by Limited (First k) limit choice tariff.now sheet.now (length area.old))) area.old }
     ensures sized { OnHauls (sheet_by choice tariff.now sheet.now) (λ h. LimitedSearchSized h k result area.new) }
@@ -112,7 +113,7 @@ pub fn limited_search_from(
     start: u32,
     limit: u64,
     area: &mut [u8],
-) -> Searched
+) -> Result<Searched, Refusal>
     ensures answer { searched_answer result ≡ search_answer (search_planning_by Limited (Given start) limit choice tariff.now sheet.now (length area.old)) }
     ensures area { area.new ≡ area_after (plan_left (search_planning_by Limited (Given start) limit choice tariff.now sheet.now (length area.old))) area.old }
     ensures sized { OnHauls (sheet_by choice tariff.now sheet.now) (λ h. LimitedSearchSized h (count (yards h) (member start)) result area.new) }
@@ -141,16 +142,11 @@ fn search_by(
     choice: TariffChoice,
     tariff: &[u8],
     area: &mut [u8],
-) -> Searched
+) -> Result<Searched, Refusal>
     ensures answer { searched_answer result ≡ search_answer (search_planning_by kind start limit choice tariff.now sheet.now (length area.old)) }
     ensures area { area.new ≡ area_after (plan_left (search_planning_by kind start limit choice tariff.now sheet.now (length area.old))) area.old }
 {
-    let mut hauls = [0u8; MOST_BYTES];
-    match distances::hauls_by(sheet, choice, tariff, &mut hauls) {
-        HaulSheet::AsWritten => plan_search::search_plan(kind, start, limit, sheet, area),
-        HaulSheet::Priced(bytes) => {
-            plan_search::search_plan(kind, start, limit, &hauls[..bytes], area)
-        }
-        HaulSheet::Refused(number) => Searched::Refused(number),
-    }
+    let mut lent = [0u8; MOST_BYTES];
+    let hauls = distances::hauls_by(sheet, choice, tariff, &mut lent)?;
+    plan_search::search_plan(kind, start, limit, hauls.within(sheet, &lent), area)
 }

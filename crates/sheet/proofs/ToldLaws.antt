@@ -16,7 +16,8 @@ use Rattle.questions.specs.Bounds.{least_bytes, most_bytes, most_yards, most_far
 use Rattle.model.specs.Answers.{accepted, refused}
 use Rattle.questions.specs.Sheet.{fee, haul, loads_byte, farm_byte}
 use Rattle.questions.specs.Questions.{well_formed, question5, question6}
-use Rattle.questions.specs.Reading.{Counts, counts, form, form_and_loads, reading}
+use Rattle.questions.specs.declared.Counts.{Counts}
+use Rattle.questions.specs.Reading.{counts, form, form_and_loads, reading}
 use Rattle.questions.proofs.ReadingLaws.{formed, loaded, reading_5, reading_6, reading_yes}
 use Rattle.questions.proofs.QuestionLaws.{length_said}
 use Rattle.questions.proofs.FormLaws.{farms_are_hauls}

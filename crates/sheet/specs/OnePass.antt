@@ -1,5 +1,5 @@
 -- What the one pass over a good sheet tests, for private functions alone: each record whole, by what the questions ask of it at its place.
-use Rattle.std.specs.Prelude.{ℕ, ◌≡◌, Bool, true, cond, ◌&&◌, List, eqb, leb}
+use Rattle.std.specs.Prelude.{ℕ, ◌≡◌, Bool, true, cond, ◌&&◌, List, eqb, leb, Option, Some, None}
 use Rattle.model.specs.Loops.{all_below}
 use Rattle.record.specs.declared.Record.{Record}
 use Rattle.record.specs.Records.{record_at}
@@ -8,8 +8,7 @@ use Rattle.model.specs.Answers.{accepted}
 use Rattle.questions.specs.Sheet.{yards, place, farm_byte}
 use Rattle.questions.specs.Questions.{well_formed, question5}
 use Rattle.questions.specs.Reading.{counts, form_and_loads}
-use Rattle.sheet.specs.declared.one_pass.OnePass.{OnePass}
-use Rattle.sheet.specs.declared.one_pass.OnePass.TheVariants.{Good, Faulty}
+use Rattle.questions.specs.declared.Counts.{Counts}
 use Rattle.sheet.specs.Hauls.{Filled}
 
 -- the record is well-formed, has this kind, yard, farm and byte 3, and the amount is at most so much
@@ -41,6 +40,6 @@ abbrev pub Fails : List ℕ → Type 0
 Fails s = (m n : ℕ) → Passes s m n → ⊥
 
 -- what the answer of the one pass says: with counts, that the sheet passes and the table has its hauls; without, that the sheet fails
-abbrev pub Told : List ℕ → OnePass → List ℕ → Type 0
-Told s (Good m n) table = Passes s m n × Filled s m n 0 table
-Told s Faulty table = Fails s
+abbrev pub Told : List ℕ → Option Counts → List ℕ → Type 0
+Told s (Some c) table = Passes s c.yards c.farms × Filled s c.yards c.farms 0 table
+Told s None table = Fails s

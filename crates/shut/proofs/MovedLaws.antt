@@ -17,7 +17,7 @@ use Rattle.questions.specs.Sheet.{farm_byte, loads_of, instance_by}
 use Rattle.questions.specs.Shape.{Shape}
 use Rattle.stretch.specs.Stretch.{stretch}
 use Rattle.stretch.proofs.FarmLaws.{byte_on}
-use Rattle.nearest.specs.declared.Nearest.{Nearest}
+use Rattle.nearest.specs.Nearest.{Nearest}
 use Rattle.nearest.specs.Nearest.{nearest_in, nearest_on}
 use Rattle.plan_area.proofs.FarmNearestLaws.{farm_listed, farm_yard, farm_haul}
 use Rattle.shut.specs.HaulsMoved.{farm_there, farm_elsewhere}

@@ -23,12 +23,12 @@ use Rattle.questions.specs.Sheet.{yards, farm_byte, instance_of}
 use Rattle.questions.specs.Reading.{reading}
 use Rattle.questions.proofs.AcceptedLaws.{door, facilities_read}
 use Rattle.questions.proofs.CostBounds.{total_fits}
-use Rattle.nearest.specs.declared.Nearest.{Nearest}
+use Rattle.nearest.specs.Nearest.{Nearest}
 use Rattle.nearest.specs.Nearest.{near}
 use Rattle.plan_area.specs.Plan.{question9}
 use Rattle.price.specs.Pricing.{Plan, plan, question8, pricing}
 use Rattle.price.proofs.PricingLaws.{marked, priced_plan}
-use Rattle.shut.specs.declared.Change.TheVariants.{Cents}
+use Rattle.std.specs.Prelude.{Ok}
 use Rattle.shut.specs.Shutting.{second_of, seconding, question14, shutting}
 use Rattle.shut.proofs.ShuttingLaws.{left_over, shut_passed, is_difference}
 
@@ -113,5 +113,5 @@ shut_prices s set yard change e room p h =
       priced_plan s (without set yard) room c.yards_read_lem c.farms_read_lem c.read (still_marked c.yards_read_lem set yard c.marked c.can_shut) ninth.0,
       total_fits (instance_of s) (door s c.yards_read_lem c.farms_read_lem c.read) (member set),
       total_fits (instance_of s) (door s c.yards_read_lem c.farms_read_lem c.read) (member (without set yard)),
-      is_difference s set yard (Cents change) (sym e) change refl,
+      is_difference s set yard (Ok change) (sym e) change refl,
     )

@@ -24,12 +24,14 @@ use Rattle.questions.specs.Reading.{counts, reading}
 use Rattle.questions.proofs.AcceptedLaws.{shape_of, instance_is, accepts}
 use Rattle.questions.proofs.AmountLaws.{yard_fee}
 use Rattle.stretch.specs.Stretch.{stretch}
-use Rattle.nearest.specs.declared.Nearest.{Nearest}
+use Rattle.nearest.specs.Nearest.{Nearest}
 use Rattle.nearest.specs.Nearest.{near, second_on}
 use Rattle.plan_area.proofs.FarmNearestLaws.{farm_second}
 use Rattle.price.specs.Pricing.{question8}
-use Rattle.shut.specs.declared.Change.{Change}
-use Rattle.shut.specs.Shutting.{second_of, seconding, question14, shutting, shut_answer, IsDifference}
+use Rattle.std.specs.Prelude.{Result, Ok}
+use Rattle.refusal.specs.declared.Refusal.{Refusal}
+use Rattle.refusal.specs.Numbers.{answer_of}
+use Rattle.shut.specs.Shutting.{second_of, seconding, question14, shutting, IsDifference}
 
 -- ---- a farm's second yard
 
@@ -152,13 +154,13 @@ differs I m set yard e q h =
     ∙ ap (λ x. pos x -ℤ pos (total_cost I (member set))) (sym (total_cong I (member (without set yard)) (minus (member set) yard) (λ i l. member_without set yard i)))
 
 -- "It equals the full price of the set without the yard less that of the set."
-pub is_difference : (s : List ℕ) (set yard : ℕ) (r : Change) → shut_answer r ≡ shutting s set yard → IsDifference s set yard r
+pub is_difference : (s : List ℕ) (set yard : ℕ) (r : Result ℤ Refusal) → answer_of r ≡ shutting s set yard → IsDifference s set yard r
 unfolding instance_by
 is_difference s set yard r h cents e =
-    let p = shut_passed s set yard cents (sym h ∙ ap shut_answer e) in
+    let p = shut_passed s set yard cents (sym h ∙ ap answer_of e) in
     let same_m = ap (λ (I : Instance). I.facilities) (sym (instance_is (accepts s p.yards_read_lem p.farms_read_lem p.read).has)) in
     p.change_is ∙ differs (instance_of s) p.yards_read_lem set yard same_m p.marked p.can_shut
 
 -- both clauses, from the answer
-pub shut_answers : (s : List ℕ) (set yard : ℕ) (r : Change) → shut_answer r ≡ shutting s set yard → (shut_answer r ≡ shutting s set yard) × IsDifference s set yard r
+pub shut_answers : (s : List ℕ) (set yard : ℕ) (r : Result ℤ Refusal) → answer_of r ≡ shutting s set yard → (answer_of r ≡ shutting s set yard) × IsDifference s set yard r
 shut_answers s set yard r h = (h, is_difference s set yard r h)

@@ -1,25 +1,23 @@
 -- What if this yard shuts (document 02, paper 5): what the two calls answer.
-use Rattle.std.specs.Prelude.{ℕ, ◌≡◌, Bool, false, cond, ◌&&◌, List, leb, ltb, ℤ, pos, ◌-ℤ◌}
+use Rattle.std.specs.Prelude.{ℕ, ◌≡◌, Bool, false, cond, ◌&&◌, List, leb, ltb, ℤ, pos, ◌-ℤ◌, Option, Result, Ok, Err}
 use Rattle.model.specs.Sets.{count, member, without}
 use Rattle.model.specs.Instance.{Instance, total_cost}
 use Rattle.model.specs.Closing.{closing_change}
 use Rattle.model.specs.Answers.{Answer, accepted, refused, ask, after}
 use Rattle.questions.specs.Sheet.{instance_of}
 use Rattle.questions.specs.Reading.{reading}
-use Rattle.nearest.specs.declared.Nearest.{Nearest}
-use Rattle.nearest.specs.Nearest.{near, second_in}
+use Rattle.refusal.specs.declared.Refusal.{Refusal}
+use Rattle.refusal.specs.Numbers.{number_of}
+use Rattle.nearest.specs.declared.Nearest as declared
+use Rattle.nearest.specs.Nearest.{Nearest, near, told, second_in}
 use Rattle.price.specs.Pricing.{question8}
-use Rattle.shut.specs.declared.SecondYard.{SecondYard}
-use Rattle.shut.specs.declared.SecondYard.TheVariants as second_yard
-use Rattle.shut.specs.declared.Change.{Change}
-use Rattle.shut.specs.declared.Change.TheVariants as change
 
 -- ---- a farm's second yard
 
--- document 01's answer in each case of the code's enum
-abbrev pub second_answer : SecondYard → Answer Nearest
-second_answer (second_yard.Told found yard haul) = accepted (near found yard haul)
-second_answer (second_yard.Refused k) = refused k
+-- document 01's answer in each case of the code's result
+abbrev pub second_answer : Result (Option declared.Nearest) Refusal → Answer Nearest
+second_answer (Ok nearest) = accepted (told nearest)
+second_answer (Err refusal) = refused (number_of refusal)
 
 -- "Each farm's second cheapest open yard .. with the haul there, ties as in paper 1, or none where one is open"; a farm n or above has none.
 unfoldable pub second_of : Instance → ℕ → ℕ → Nearest
@@ -30,10 +28,6 @@ unfoldable pub seconding : List ℕ → ℕ → ℕ → Answer Nearest
 seconding s set farm = after (reading s) (λ c. ask (question8 c.yards set) 8 (accepted (second_of (instance_of s) set farm)))
 
 -- ---- what shutting a yard changes
-
-abbrev pub shut_answer : Change → Answer ℤ
-shut_answer (change.Cents cents) = accepted cents
-shut_answer (change.Refused k) = refused k
 
 -- "14 when the named yard is not in the set or is its only yard": of m yards, is it in the set beside another?
 unfoldable pub question14 : ℕ → ℕ → ℕ → Bool
@@ -46,7 +40,7 @@ shutting s set yard =
     (accepted (closing_change (instance_of s) (member set) yard))))
 
 -- "It equals the full price of the set without the yard less that of the set."
-abbrev pub IsDifference : List ℕ → ℕ → ℕ → Change → Type 0
+abbrev pub IsDifference : List ℕ → ℕ → ℕ → Result ℤ Refusal → Type 0
 IsDifference s set yard r =
-    (cents : ℤ) → r ≡ change.Cents cents
+    (cents : ℤ) → r ≡ Ok cents
     → cents ≡ pos (total_cost (instance_of s) (member (without set yard))) -ℤ pos (total_cost (instance_of s) (member set))

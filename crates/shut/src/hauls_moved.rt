@@ -8,6 +8,7 @@ ghost use Rattle.questions.specs.Sheet.{instance_by};
 ghost use Rattle.questions.specs.Shape.{Shape};
 ghost use Rattle.shut.specs.HaulsMoved.{farm_there, farm_elsewhere};
 
+use nearest::NOWHERE;
 use record::Record;
 
 // Hauls times loads, at the yard and elsewhere.
@@ -25,28 +26,16 @@ pub(crate) fn hauls_moved(sheet: &[u8], m: usize, n: usize, set: u32, yard: usiz
     ensures small { (result.there ≤ n * most_term) × (result.elsewhere ≤ n * most_term) }
 {
     let open = sets::members_below(set, m);
-    let yards = open.list;
-    let count = open.count;
     let left = sets::members_below(sets::removed(set, yard), m);
-    let others = left.list;
-    let left_count = left.count;
+    let yards = &open.list[..open.count];
+    let others = &left.list[..left.count];
     let mut there = 0;
     let mut elsewhere = 0;
-    let mut farm = 0;
-    while farm < n {
-        let moved = farm_moved(
-            sheet,
-            m,
-            n,
-            set,
-            yard,
-            &yards[..count],
-            &others[..left_count],
-            farm,
-        );
+    for farm in 0..n {
+        let moved = farm_moved(sheet, m, n, set, yard, yards, others, farm);
+        // stays two sums: an `AddAssign` for them would be longer than its one use here
         there += moved.there;
         elsewhere += moved.elsewhere;
-        farm += 1;
     }
     HaulsMoved { there, elsewhere }
 }
@@ -68,14 +57,14 @@ fn farm_moved(
     ensures small { (result.there ≤ most_term) × (result.elsewhere ≤ most_term) }
 {
     let hauls = stretch::farm_stretch(sheet, m, farm);
-    let first = nearest::nearest_listed(sheet, hauls, yards);
+    let first = nearest::nearest_listed(sheet, hauls, yards).unwrap_or(NOWHERE);
     if first.yard != yard {
         return HaulsMoved {
             there: 0,
             elsewhere: 0,
         };
     }
-    let second = nearest::nearest_listed(sheet, hauls, others);
+    let second = nearest::nearest_listed(sheet, hauls, others).unwrap_or(NOWHERE);
     let loads = questions::loads_of(Record::at(hauls, 0).byte3);
     HaulsMoved {
         there: loads * (first.haul as u64),

@@ -5,77 +5,48 @@
 
 ghost use Rattle.std.specs.Prelude.{◌≡◌, ◌^◌, ◌<◌, ◌&&◌, leb, pos, ◌-ℤ◌};
 ghost use Rattle.model.specs.Sets.{member, without};
-ghost use Rattle.shut.specs.Shutting.{second_answer, seconding, shut_answer, shutting, IsDifference};
+ghost use Rattle.refusal.specs.Numbers.{answer_of};
+ghost use Rattle.shut.specs.Shutting.{second_answer, seconding, shutting, IsDifference};
 
 use hauls_moved::hauls_moved;
+use nearest::Nearest;
 use record::Record;
-use sheet::Reading;
+use refusal::Refusal;
+use sheet::Counts;
 
 mod hauls_moved;
 
-// A farm's second open yard and the haul there, with `found` false and zeros where there is none; or the number of the first question that is
-// answered no.
-#[derive(Clone, Copy)]
-pub enum SecondYard {
-    Told { found: bool, yard: usize, haul: u32 },
-    Refused(u8),
-}
-
-// What shutting a yard changes, in cents, below zero where it saves money; or the number of the first question that is answered no.
-#[derive(Clone, Copy)]
-pub enum Change {
-    Cents(i64),
-    Refused(u8),
-}
-
-// The second nearest open yard of a farm, in the order that a plan goes by. A farm n or above has none.
-pub fn second(sheet: &[u8], set: u32, farm: usize) -> SecondYard
+// The second nearest open yard of a farm and the haul there, in the order that a plan goes by. A farm n or above has none.
+pub fn second(sheet: &[u8], set: u32, farm: usize) -> Result<Option<Nearest>, Refusal>
     ensures { second_answer result ≡ seconding sheet.now set farm }
 {
-    match sheet::read(sheet) {
-        Reading::Accepted { yards, farms } => {
-            if !price::set_good(yards, set) {
-                return SecondYard::Refused(8);
-            }
-            if farms <= farm {
-                return SecondYard::Told {
-                    found: false,
-                    yard: 0,
-                    haul: 0,
-                };
-            }
-            let hauls = stretch::farm_stretch(sheet, yards, farm);
-            let second = nearest::second_yard(sheet, hauls, set);
-            SecondYard::Told {
-                found: second.found,
-                yard: second.yard,
-                haul: second.haul,
-            }
-        }
-        Reading::Refused(number) => SecondYard::Refused(number),
+    let Counts { yards, farms } = sheet::read(sheet)?;
+    if !price::set_good(yards, set) {
+        return Err(Refusal::Set);
     }
+    if farms <= farm {
+        return Ok(None);
+    }
+    let hauls = stretch::farm_stretch(sheet, yards, farm);
+    Ok(nearest::second_yard(sheet, hauls, set))
 }
 
-// The full cost of the set without the yard less that of the set, from the farms of the yard, their two nearest yards and their loads, and the
-// yard's fee.
-pub fn shut(sheet: &[u8], set: u32, yard: usize) -> Change
-    ensures answer { shut_answer result ≡ shutting sheet.now set yard }
+// What shutting a yard changes, in cents, below zero where it saves money: the full cost of the set without the yard less that of the set, from the
+// farms of the yard, their two nearest yards and their loads, and the yard's fee.
+pub fn shut(sheet: &[u8], set: u32, yard: usize) -> Result<i64, Refusal>
+    ensures answer { answer_of result ≡ shutting sheet.now set yard }
     ensures difference { IsDifference sheet.now set yard result }
 {
-    match sheet::read(sheet) {
-        Reading::Accepted { yards, farms } => {
-            if !price::set_good(yards, set) {
-                return Change::Refused(8);
-            }
-            if !can_shut(set, yard) {
-                return Change::Refused(14);
-            }
-            let fee = Record::at(sheet, yard).amount;
-            let moved = hauls_moved(sheet, yards, farms, set, yard);
-            Change::Cents(less(moved.elsewhere, (fee as u64) + moved.there))
-        }
-        Reading::Refused(number) => Change::Refused(number),
+    let Counts { yards, farms } = sheet::read(sheet)?;
+    if !price::set_good(yards, set) {
+        return Err(Refusal::Set);
     }
+    if !can_shut(set, yard) {
+        return Err(Refusal::ShutYard);
+    }
+    let fee = Record::at(sheet, yard).amount;
+    let moved = hauls_moved(sheet, yards, farms, set, yard);
+    Ok(less(moved.elsewhere, (fee as u64) + moved.there))
 }
 
 // Is the yard in the set, and another one beside it?
@@ -86,6 +57,7 @@ fn can_shut(set: u32, yard: usize) -> bool
 }
 
 // The first less the second.
+// stays a subtraction: of numbers below 2^63 it always fits, and `checked_signed_diff` would answer an `Option` that is never `None`
 fn less(a: u64, b: u64) -> i64
     requires { (a < 2 ^ 63) × (b < 2 ^ 63) }
     ensures { result ≡ pos a -ℤ pos b }

@@ -10,9 +10,11 @@ use Rattle.questions.proofs.ReadingLaws.{reading_loads}
 use Rattle.tariff.specs.declared.TariffChoice.{TariffChoice}
 use Rattle.distances.specs.Priced.{sheet_by, OnHauls}
 use Rattle.distances.proofs.CallLaws.{FormFirst}
-use Rattle.nearest.specs.declared.Nearest.{Nearest}
-use Rattle.shut.specs.declared.Change.{Change}
-use Rattle.shut.specs.Shutting.{seconding, shut_answer, shutting, IsDifference}
+use Rattle.nearest.specs.Nearest.{Nearest}
+use Rattle.std.specs.Prelude.{Result}
+use Rattle.refusal.specs.declared.Refusal.{Refusal}
+use Rattle.refusal.specs.Numbers.{answer_of}
+use Rattle.shut.specs.Shutting.{seconding, shutting, IsDifference}
 use Rattle.shut.proofs.ShuttingLaws.{second_unread, shut_unread, is_difference}
 use Rattle.shut_by.specs.ShuttingBy.{seconding_by, shutting_by}
 
@@ -34,7 +36,7 @@ module _ (choice : TariffChoice) (tariff s : List ℕ) (set : ℕ) where
   shut_on_hauls yard change e = passed_first (sheet_by choice tariff s) (λ h. shutting h set yard) change e
 
   -- both clauses, from the answer
-  pub shut_answers_by : (yard : ℕ) (r : Change) → shut_answer r ≡ after (sheet_by choice tariff s) (λ h. shutting h set yard)
-      → (shut_answer r ≡ shutting_by choice tariff s set yard) × OnHauls (sheet_by choice tariff s) (λ h. IsDifference h set yard r)
+  pub shut_answers_by : (yard : ℕ) (r : Result ℤ Refusal) → answer_of r ≡ after (sheet_by choice tariff s) (λ h. shutting h set yard)
+      → (answer_of r ≡ shutting_by choice tariff s set yard) × OnHauls (sheet_by choice tariff s) (λ h. IsDifference h set yard r)
   unfolding shutting_by
   shut_answers_by yard r e = (e, (λ h is. is_difference h set yard r (e ∙ ap (λ a. after a (λ h. shutting h set yard)) is)))

@@ -3,7 +3,7 @@ use Rattle.std.specs.Prelude.{ℕ, List, ℤ}
 use Rattle.model.specs.Answers.{Answer, after}
 use Rattle.tariff.specs.declared.TariffChoice.{TariffChoice}
 use Rattle.distances.specs.Priced.{sheet_by}
-use Rattle.nearest.specs.declared.Nearest.{Nearest}
+use Rattle.nearest.specs.Nearest.{Nearest}
 use Rattle.shut.specs.Shutting.{seconding, shutting}
 
 unfoldable pub seconding_by : TariffChoice → List ℕ → List ℕ → ℕ → ℕ → Answer Nearest

@@ -1,7 +1,7 @@
 -- Laws of where a search begins: the question of the start, and that a start which passes it is a set of facilities that is not empty.
 use Prim.Native.Nat.{ℕ, suc, ◌^◌, ◌≤◌, ◌<◌}
 use native.Mathlib.Omega.{arith}
-use mathlib.Core.Path.{◌≡◌, refl, sym, subst, ◌∙◌}
+use mathlib.Core.Path.{◌≡◌, refl, sym, ap, subst, ◌∙◌}
 use mathlib.Core.Bool.{Bool, true, false, cond, and-false}
 use mathlib.Core.List.{List}
 use borrow.Author.Tests.{le-leb, lt-leb, leb-true, lt-ltb, ltb-true}
@@ -15,12 +15,12 @@ use Rattle.model.proofs.Bools.{cases, and_left, and_right, and_both, eqb_self}
 use Rattle.model.proofs.LeastLaws.{any_of, any_counted, arg_least}
 use Rattle.model.proofs.SetLaws.{member_single, member_some, some_member}
 use Rattle.model.proofs.PlanLaws.{limited_start_lem}
-use Rattle.model.proofs.AnswerLaws.{asked}
+use Rattle.model.proofs.AnswerLaws.{asked, not_both}
 use Rattle.questions.specs.Bounds.{most_yards}
 use Rattle.price.specs.Pricing.{question8}
 use Rattle.tables.specs.Tables.{tabled, table_cost}
 use Rattle.engine.specs.SearchOnTables.{good_start, start_set}
-use Rattle.starts.specs.Starts.{start_by, question7, ask_start, start_refusal, engine_start}
+use Rattle.starts.specs.Starts.{start_by, question7, ask_start, asked_start, start_refusal, engine_start}
 use Rattle.starts.specs.declared.PlanStart.{PlanStart}
 use Rattle.starts.specs.declared.PlanStart.TheVariants.{Cheapest, First, Given}
 
@@ -104,6 +104,32 @@ module _ {A : Type 0} (m : ℕ) (rest : Answer A) where
   start_asked Cheapest x h = (refl, h)
   start_asked (First k) x h = let a = asked (question7 m k) 7 rest x h in (rw a.0, a.1)
   start_asked (Given set) x h = let a = asked (question8 m set) 8 rest x h in (rw a.0, a.1)
+
+-- ---- the question alone
+
+abbrev number : {A : Type 0} → Answer A → ℕ
+number (accepted x) = 0
+number (refused k) = k
+
+-- where its number is 0 it passes, else it is refused by that number; and back
+module _ (start : PlanStart) (m : ℕ) where
+  pub asked_yes : 0 ≡ start_refusal start m → accepted tt ≡ asked_start start m
+  unfolding asked_start
+  asked_yes e = sym (start_passed m (accepted tt) start (sym e))
+
+  pub asked_no : (k : ℕ) → (k ≡ 0 → ⊥) → k ≡ start_refusal start m → refused k ≡ asked_start start m
+  unfolding asked_start
+  asked_no k some e = ap refused e ∙ sym (start_refused m (accepted tt) start (λ z. some (e ∙ z)))
+
+  pub passed_alone : accepted tt ≡ asked_start start m → start_refusal start m ≡ 0
+  unfolding asked_start
+  passed_alone e = (start_asked m (accepted tt) start tt (sym e)).0
+
+  pub refused_alone : (k : ℕ) → refused k ≡ asked_start start m → (start_refusal start m ≡ 0 → ⊥) × (start_refusal start m ≡ k)
+  unfolding asked_start
+  refused_alone k e =
+      let some = λ (z : start_refusal start m ≡ 0). not_both (sym (start_passed m (accepted tt) start z) ∙ sym e) in
+      (some, ap number (sym (start_refused m (accepted tt) start some) ∙ sym e))
 
 -- ---- where it begins
 

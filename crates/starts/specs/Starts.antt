@@ -2,7 +2,7 @@
 use Rattle.std.specs.Prelude.{ℕ, ◌^◌, Bool, true, cond, ◌&&◌, leb}
 use Rattle.model.specs.Least.{arg}
 use Rattle.model.specs.Plans.{limited_start}
-use Rattle.model.specs.Answers.{Answer, ask}
+use Rattle.model.specs.Answers.{Answer, accepted, ask}
 use Rattle.questions.specs.Bounds.{most_yards}
 use Rattle.price.specs.Pricing.{question8}
 use Rattle.engine.specs.declared.Start.{Start}
@@ -26,6 +26,10 @@ unfoldable pub ask_start : {A : Type 0} → PlanStart → ℕ → Answer A → A
 ask_start Cheapest m rest = rest
 ask_start (First k) m rest = ask (question7 m k) 7 rest
 ask_start (Given set) m rest = ask (question8 m set) 8 rest
+
+-- that question alone
+unfoldable pub asked_start : PlanStart → ℕ → Answer (Unit {0})
+asked_start start m = ask_start start m (accepted tt)
 
 -- ---- as the code has it
 

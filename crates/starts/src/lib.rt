@@ -5,9 +5,11 @@
 #![tactic(auto)]
 
 ghost use Rattle.std.specs.Prelude.{◌≡◌};
-ghost use Rattle.starts.specs.Starts.{start_refusal, engine_start};
+ghost use Rattle.refusal.specs.Numbers.{answer_of};
+ghost use Rattle.starts.specs.Starts.{asked_start, engine_start};
 
 use engine::Start;
+use refusal::Refusal;
 use sheet::MOST_YARDS;
 
 // At the single yard of least cost, the lowest number among equals, at yards 0 to k - 1, or at a given set, of which bit i marks yard i.
@@ -18,19 +20,29 @@ pub enum PlanStart {
     Given(u32),
 }
 
-// The number of the start's question, where it is answered no for a sheet of m yards, else 0: 7 of so many yards, 8 of a given set.
-pub fn start_refusal(start: PlanStart, m: usize) -> u8
-    ensures { result ≡ start_refusal start m }
+// Asks the start's question for a sheet of m yards: 7 of so many yards, 8 of a given set, none of the cheapest one.
+pub fn ask_start(start: PlanStart, m: usize) -> Result<(), Refusal>
+    ensures { answer_of result ≡ asked_start start m }
 {
     match start {
-        PlanStart::Cheapest => 0,
+        PlanStart::Cheapest => Ok(()),
         PlanStart::First(k) => {
             if k < 1 {
-                return 7;
+                return Err(Refusal::YardCount);
             }
-            if m < k { 7 } else { 0 }
+            if m < k {
+                Err(Refusal::YardCount)
+            } else {
+                Ok(())
+            }
         }
-        PlanStart::Given(set) => { if price::set_good(m, set) { 0 } else { 8 } }
+        PlanStart::Given(set) => {
+            if price::set_good(m, set) {
+                Ok(())
+            } else {
+                Err(Refusal::Set)
+            }
+        }
     }
 }
 

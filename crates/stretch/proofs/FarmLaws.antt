@@ -16,7 +16,8 @@ use Rattle.questions.specs.Bounds.{haul_kind}
 use Rattle.model.specs.Answers.{Answer, accepted, refused}
 use Rattle.questions.specs.Sheet.{place, haul, loads_byte, farm_byte}
 use Rattle.questions.specs.Shape.{Shape}
-use Rattle.questions.specs.Reading.{Counts, counts, form}
+use Rattle.questions.specs.declared.Counts.{Counts}
+use Rattle.questions.specs.Reading.{counts, form}
 use Rattle.stretch.specs.Stretch.{stretch, stretch_by, farm_hauls, from_by, farm_from, HaulsFrom}
 use Rattle.stretch.proofs.StretchLaws.{stretch_is}
 use Rattle.questions.proofs.AcceptedLaws.{has_form, shape_of}

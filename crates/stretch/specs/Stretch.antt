@@ -2,7 +2,8 @@
 use Rattle.std.specs.Prelude.{ℕ, ◌+◌, ◌*◌, ◌≤◌, ◌≡◌, cond, ◌&&◌, List, [], length, take, drop, leb, ltb}
 use Rattle.questions.specs.Bounds.{most_yards, most_farms}
 use Rattle.model.specs.Answers.{Answer, accepted, refused}
-use Rattle.questions.specs.Reading.{Counts, form}
+use Rattle.questions.specs.declared.Counts.{Counts}
+use Rattle.questions.specs.Reading.{form}
 
 -- The m haul records of farm p on a sheet of m yards; the empty stretch where m is above 32, p is 128 or above, or the sheet
 -- does not reach so far.

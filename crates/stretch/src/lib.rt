@@ -6,7 +6,7 @@
 ghost use Rattle.std.specs.Prelude.{◌≡◌, length, get_or};
 ghost use Rattle.stretch.specs.Stretch.{stretch, farm_hauls, farm_from, HaulsFrom};
 
-use questions::{MOST_FARMS, MOST_YARDS, Reading};
+use questions::{Counts, MOST_FARMS, MOST_YARDS};
 use record::Record;
 
 // The hauls of a farm: its part of the caller's sheet, uncopied. Empty for a farm that the sheet does not have, and for a
@@ -15,14 +15,8 @@ pub fn farm_hauls(sheet: &[u8], farm: usize) -> &[u8]
     ensures { result.now ≡ farm_hauls sheet.now farm }
 {
     match questions::form_of(sheet) {
-        Reading::Accepted { yards, farms } => {
-            if farm < farms {
-                farm_stretch(sheet, yards, farm)
-            } else {
-                &sheet[..0]
-            }
-        }
-        Reading::Refused(_) => &sheet[..0],
+        Ok(Counts { yards, farms }) if farm < farms => farm_stretch(sheet, yards, farm),
+        _ => &[],
     }
 }
 
@@ -30,18 +24,11 @@ pub fn farm_hauls(sheet: &[u8], farm: usize) -> &[u8]
 pub fn farm_stretch(sheet: &[u8], yards: usize, farm: usize) -> &[u8]
     ensures { result.now ≡ stretch sheet.now yards farm }
 {
-    if yards > MOST_YARDS {
-        return &sheet[..0];
-    }
-    if farm >= MOST_FARMS {
-        return &sheet[..0];
+    if yards > MOST_YARDS || farm >= MOST_FARMS {
+        return &[];
     }
     let from = Record::LEN * (yards + farm * yards);
-    let to = from + Record::LEN * yards;
-    if sheet.len() < to {
-        return &sheet[..0];
-    }
-    &sheet[from..to]
+    sheet.get(from..from + Record::LEN * yards).unwrap_or(&[])
 }
 
 // The length of a farm's hauls.
@@ -56,7 +43,7 @@ pub fn farm_from(sheet: &[u8], farm: usize) -> usize
     ensures from { result ≡ farm_from sheet.now farm }
     ensures hauls { HaulsFrom sheet.now farm result }
 {
-    let bytes = farm_hauls(sheet, farm).len();
+    let bytes = farm_len(sheet, farm);
     bytes + farm * bytes
 }
 
@@ -64,6 +51,5 @@ pub fn farm_from(sheet: &[u8], farm: usize) -> usize
 pub fn farm_byte(sheet: &[u8], farm: usize, at: usize) -> u8
     ensures { result ≡ get_or (farm_hauls sheet.now farm) at 0 }
 {
-    let hauls = farm_hauls(sheet, farm);
-    if at < hauls.len() { hauls[at] } else { 0 }
+    farm_hauls(sheet, farm).get(at).copied().unwrap_or(0)
 }

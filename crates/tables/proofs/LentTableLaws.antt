@@ -1,25 +1,26 @@
 -- Laws of the tables that are lent: counting numbers that are too high, what good tables say, and the service costs in them added up.
 use Prim.Native.Nat.{ℕ, ◌+◌, ◌*◌, ◌≤◌, ◌<◌}
-use native.Mathlib.Nat.{add-zero}
 use native.Mathlib.Omega.{arith}
-use mathlib.Core.Path.{◌≡◌, refl, sym, ap, ap₂, ◌∙◌}
+use mathlib.Core.Path.{◌≡◌, refl, sym, ap₂, ◌∙◌}
 use mathlib.Core.Bool.{Bool, true, false, ◌&&◌}
 use mathlib.Core.List.{List}
-use borrow.Author.Tests.{leb-true, le-leb, lt-leb, lt-ltb, le-ltb, ltb-true, ltb-false, eqb-true, eqb-false}
+use borrow.Author.Tests.{leb-true, le-leb, lt-leb, ltb-true, ltb-false, eqb-true, eqb-false}
 use lib.Dec.{eqb, leb, ltb}
-use lib.ListN.{length, get_or}
+use lib.ListN.{length, get_or, take}
+use Rattle.std.specs.List.{list_all, count_by}
 use Rattle.model.specs.Loops.{on, all_below, sum}
 use Rattle.model.specs.Sets.{count}
 use Rattle.model.specs.Instance.{nearest, service_cost}
 use Rattle.model.proofs.Bools.{and_left, and_right, cases}
 use Rattle.model.proofs.LoopLaws.{all_at, all_from, all_stops}
+use Rattle.model.proofs.RangeLaws.{all_front, count_front}
 use Rattle.model.proofs.CountLaws.{count_some, count_find, count_le}
-use Rattle.model.proofs.SumLaws.{sum_more, on_true}
+use Rattle.model.proofs.SumLaws.{sum_more}
 use Rattle.model.proofs.CostLaws.{service_once}
 use Rattle.tables.specs.Bounds.{most_clients, most_entry, most_opening}
 use Rattle.tables.specs.Tables.{tabled, opening_within, entry_within, good_tables, too_high_at}
 
--- ---- counting
+-- ---- counting, and what is found of the numbers of a front
 
 -- the count with one place more, and its bound
 pub counts_on : (S : ℕ → Bool) (total i r : ℕ) → total ≡ count i S → r ≡ on (S i) 1
@@ -28,17 +29,13 @@ counts_on S total i r e h =
     let more : total + r ≡ count (i + 1) S = ap₂ ◌+◌ e h ∙ sym (sum_more _ _) in
     (more, rw more (count_le (i + 1) S))
 
--- a place above the bound, and one within it
-module _ (service : List ℕ) (k total : ℕ) (counted : total ≡ count k (too_high_at service)) where
-  pub counts_high : most_entry < get_or service k 0 → (total + 1 ≡ count (k + 1) (too_high_at service)) × (total + 1 ≤ k + 1)
-  unfolding too_high_at
-  counts_high high = counts_on (too_high_at service) total k 1 counted (sym (on_true 1 (lt-ltb most_entry (get_or service k 0) high)))
+pub high_entries : (service : List ℕ) (n : ℕ) → n ≤ length service → count_by (ltb most_entry) (take n service) ≡ count n (too_high_at service)
+unfolding too_high_at
+high_entries service n room = count_front (ltb most_entry) 0 service n room
 
-  pub counts_low : get_or service k 0 ≤ most_entry → total ≡ count (k + 1) (too_high_at service)
-  unfolding too_high_at
-  counts_low low =
-      sym (add-zero total)
-      ∙ (counts_on (too_high_at service) total k 0 counted (sym (ap (λ (b : Bool). on b 1) (le-ltb most_entry (get_or service k 0) low)))).0
+pub all_openings : (opening : List ℕ) (m : ℕ) → m ≤ length opening → list_all (λ fee. leb fee most_opening) (take m opening) ≡ all_below m (opening_within opening)
+unfolding opening_within
+all_openings opening m room = all_front (λ fee. leb fee most_opening) 0 opening m room
 
 -- ---- which tables are good
 

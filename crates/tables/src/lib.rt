@@ -5,10 +5,10 @@
 
 #![tactic(auto)]
 
-ghost use Rattle.std.specs.Prelude.{◌≡◌, ◌≤◌, length};
-ghost use Rattle.model.specs.Loops.{all_below};
-ghost use Rattle.model.specs.Sets.{count};
-ghost use Rattle.tables.specs.Tables.{opening_within, too_high_at, good_tables};
+ghost use Rattle.std.specs.Prelude.{◌≡◌, ◌≤◌, length, leb, ltb};
+ghost use Rattle.std.specs.List.{list_all, count_by};
+ghost use Rattle.tables.specs.Bounds.{most_entry, most_opening};
+ghost use Rattle.tables.specs.Tables.{good_tables};
 
 // The bounds (specs/Bounds.antt says what each is for).
 pub const MOST_FACILITIES: usize = rows::COLUMNS;
@@ -19,35 +19,23 @@ pub const MOST_ENTRY: u32 = 2000000000;
 
 pub const MOST_OPENING: u64 = 4000000000;
 
-// Are the opening costs of m facilities within their bound?
-fn openings_within(opening: &[u64], m: usize) -> bool
-    requires { m ≤ length opening.now }
-    ensures { result ≡ all_below m (opening_within opening.now) }
+// Are the opening costs within their bound?
+fn openings_within(openings: &[u64]) -> bool
+    ensures { result ≡ list_all (λ fee. leb fee most_opening) openings.now }
 {
-    let mut i = 0;
-    while i < m {
-        if MOST_OPENING < opening[i] {
-            return false;
-        }
-        i += 1;
-    }
-    true
+    openings.iter().all(|fee| *fee <= MOST_OPENING)
 }
 
-// How many of the first so many entries are above the bound. The compiler does several places of this loop at a time.
-fn high_count(service: &[u32], places: usize) -> u32
-    requires { (places ≤ length service.now) × (places ≤ 4096) }
-    ensures { result ≡ count places (too_high_at service.now) }
+// How many of the entries are above the bound. The compiler does several places of the sum at a time: `all`, which stops early,
+// and `count`, which counts in 64 bits, took three times as long and more.
+fn high_count(entries: &[u32]) -> u32
+    requires { length entries.now ≤ 4096 }
+    ensures { result ≡ count_by (λ entry. ltb most_entry entry) entries.now }
 {
-    let mut total: u32 = 0;
-    let mut k = 0;
-    while k < places {
-        if MOST_ENTRY < service[k] {
-            total += 1;
-        }
-        k += 1;
-    }
-    total
+    entries
+        .iter()
+        .map(|entry| u32::from(*entry > MOST_ENTRY))
+        .sum()
 }
 
 // Does the engine take the tables?
@@ -69,8 +57,8 @@ pub fn tables_good(opening: &[u64], service: &[u32], m: usize, n: usize) -> bool
     if service.len() < n * m {
         return false;
     }
-    if !openings_within(opening, m) {
+    if !openings_within(&opening[..m]) {
         return false;
     }
-    high_count(service, n * m) == 0
+    high_count(&service[..n * m]) == 0
 }

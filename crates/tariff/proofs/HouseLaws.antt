@@ -1,13 +1,14 @@
 -- The house tariff: its records pass questions 11 and 12, so that its bands are allowed; what it charges at some distances; and the rule of its
 -- table of band starts, from which every haul is as it was.
-use Prim.Native.Nat.{ℕ, ◌+◌, ◌<◌}
+use Prim.Native.Nat.{ℕ, ◌+◌, ◌<◌, ◌^◌}
 use native.Mathlib.Omega.{arith}
 use mathlib.Core.Path.{◌≡◌, refl, sym, ap, ap₂, ◌∙◌}
 use mathlib.Core.Bool.{Bool, true, ◌&&◌}
 use mathlib.Core.List.{List, [], ◌∷◌}
 use borrow.Author.Tests.{eqb-true, ltb-true}
 use lib.Dec.{eqb, ltb}
-use lib.ListN.{get_or}
+use lib.ListN.{get_or, take}
+use Rattle.std.specs.List.{sum_by}
 use Rattle.model.specs.Loops.{all_below, sum, join}
 use Rattle.model.proofs.Bools.{and_left, and_right}
 use Rattle.model.proofs.LoopLaws.{all_at, table_rule}
@@ -16,12 +17,12 @@ use Rattle.tariff.specs.declared.bands.Band.{Band}
 use Rattle.tariff.specs.Bounds.{half_word}
 use Rattle.tariff.specs.Bands.{band_by, inside, charge, haul_by, band_number, whole_charge, cost_before}
 use Rattle.tariff.specs.Questions.{band_of, band_at, tariff_length, in_place, band_in_place, question11, no_rise, question12}
-use Rattle.tariff.specs.House.{house, house_starts, haul_from_start}
+use Rattle.tariff.specs.House.{house, house_bands, house_starts, haul_from_start}
 use Rattle.tariff.proofs.BandBytes.{band_bytes}
 use Rattle.tariff.proofs.BandLaws.{Proper, proper_cong}
 use Rattle.tariff.proofs.QuestionLaws.{accepted_proper}
-use Rattle.tariff.proofs.StartLaws.{is_band, haul_from_start_lem}
-use Rattle.tariff.proofs.MakingLaws.{Allowed}
+use Rattle.tariff.proofs.StartLaws.{sum_front, is_band, haul_from_start_lem}
+use Rattle.tariff.proofs.MakingLaws.{Allowed, cost_fits}
 
 -- the house tariff as records
 pub house_bytes : List ℕ
@@ -91,6 +92,14 @@ starts_tested = refl
 -- "Each entry equals the cost of all the bands before it."
 pub start_is : (i : ℕ) → i < house.count → get_or house_starts i 0 ≡ cost_before house.band i
 start_is = table_rule house_starts (cost_before house.band) house.count starts_tested
+
+-- the same cost as a sum over the list of the bands before band i
+pub charges_are : (i : ℕ) → i < house.count → sum_by (λ b. whole_charge b) (take i house_bands) ≡ cost_before house.band i
+unfolding cost_before
+charges_are i l = sum_front whole_charge house_bands (band_by 0 0 0) i (omega arith)
+
+pub charges_fit : (i : ℕ) → i < house.count → sum_by (λ b. whole_charge b) (take i house_bands) < 2 ^ 32
+charges_fit i l = omega (arith, charges_are i l, cost_fits house house_allowed i (omega arith))
 
 -- "Every haul stays as it was": from the table it is what the bands charge, for every distance.
 pub hauls_stay : (d : ℕ) → haul_from_start d ≡ haul_by house d

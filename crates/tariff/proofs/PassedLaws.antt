@@ -3,7 +3,9 @@ use Prim.Native.Nat.{ℕ, ◌+◌, ◌≤◌, ◌<◌, min}
 use native.Mathlib.Numerals.{add-one}
 use native.Mathlib.Omega.{arith}
 use mathlib.Core.Path.{◌≡◌, ap₂}
+use mathlib.Core.Bool.{Bool, true, false}
 use mathlib.Core.List.{List}
+use mir.Val.{bool_byte}
 use lib.Dec.{ltb}
 use lib.ListN.{get_or, replicate}
 use Rattle.model.specs.Loops.{on, sum}
@@ -13,6 +15,11 @@ use Rattle.tariff.specs.declared.bands.Tariff.{Tariff}
 use Rattle.tariff.specs.Bounds.{block, most_bands, last_band}
 use Rattle.tariff.specs.Pricing.{band_passed}
 use Rattle.tariff.specs.Passed.{passed_of, Counted}
+
+-- a test as a number, as the code counts it
+pub one_past : (test : Bool) (one : ℕ) → one ≡ bool_byte test → (one ≡ on test 1) × (one ≤ 1)
+one_past true one e = (e, omega arith)
+one_past false one e = (e, omega arith)
 
 pub counted_none : (ends distances : List ℕ) → Counted ends distances 0 (replicate block 0)
 unfolding passed_of sum

@@ -2,32 +2,50 @@
 use Prim.Native.Nat.{ℕ, suc, ◌+◌, ◌-◌, ◌%◌, ◌≤◌, ◌<◌}
 use native.Mathlib.Numerals.{add-one}
 use native.Mathlib.Omega.{arith}
-use mathlib.Core.Path.{◌≡◌, refl, sym, ap, ◌∙◌}
-use mathlib.Core.Bool.{true, false, ◌&&◌, and-false}
+use mathlib.Core.Path.{◌≡◌, refl, sym, ap, subst, ◌∙◌}
+use mathlib.Core.Bool.{Bool, true, false, ◌&&◌, and-false}
 use mathlib.Core.List.{List}
 use borrow.Author.Tests.{eqb-true, leb-true, ltb-true, ne_eqb, eq-eqb, lt-leb, le-leb}
 use lib.Dec.{eqb, leb, ltb}
-use lib.ListN.{length}
+use lib.ListN.{length, get_or}
+use Rattle.std.specs.Prelude.{Ok, Err}
 use Rattle.model.specs.Loops.{all_below}
 use Rattle.model.specs.Answers.{Answer, accepted, refused}
 use Rattle.model.specs.Instance.{Instance, metric}
 use Rattle.model.specs.Charges.{charged, MonotoneSubadditive}
 use Rattle.model.proofs.Bools.{and_left, and_right}
-use Rattle.model.proofs.LoopLaws.{all_at}
+use Rattle.std.specs.Bool.{MatchBool}
+use Rattle.std.specs.List.{range_with_len, AllWithin, HoldsAt}
+use Rattle.std.proofs.lemmas.List.FromFn.{length-range_with_len, get_or-range_with_len}
+use Rattle.model.proofs.LoopLaws.{all_at, all_from, all_stops}
 use Rattle.model.proofs.AnswerLaws.{same_result, asked}
 use Rattle.record.specs.Records.{records, record_at, amount_end}
 use Rattle.record.specs.declared.Record.{Record}
 use Rattle.record.proofs.RecordLaws.{Bytes, amount_small}
 use Rattle.tariff.specs.declared.bands.Band.{Band}
 use Rattle.tariff.specs.declared.bands.Tariff.{Tariff}
-use Rattle.tariff.specs.declared.reading.TariffReading.{TariffReading}
-use Rattle.tariff.specs.declared.reading.TariffAnswer.TheVariants.{Accepted, Refused}
+use Rattle.refusal.specs.declared.Refusal.{Refusal}
+use Rattle.refusal.specs.Numbers.{number_of}
 use Rattle.tariff.specs.Bounds.{band_kind, most_bands, most_tariff_bytes, half_word}
 use Rattle.tariff.specs.Bands.{Bands, haul_by, end_of}
 use Rattle.tariff.specs.Questions.{band_of, band_at, tariff_length, in_place, band_in_place, question11, no_rise, question12}
 use Rattle.tariff.specs.Pricing.{price_of, PricesAs}
 use Rattle.tariff.specs.Reading.{bands_of, tariff_reading, ReadAs}
 use Rattle.tariff.proofs.BandLaws.{Proper, haul_charge, haul_metric}
+
+-- what `all` answers over n numbers from a on
+pub all_of_range : (p : ℕ → Bool) (a n : ℕ) (r : Bool)
+    → MatchBool r (AllWithin (λ i. p (i - a) ≡ true) (range_with_len a n) 0 (length (range_with_len a n)))
+    ((k : ℕ) × (k < length (range_with_len a n)) × HoldsAt (λ i. p (i - a) ≡ false) (range_with_len a n) k)
+    → r ≡ all_below n p
+all_of_range p a n true h =
+    sym (all_from p n (λ i l.
+    let at : get_or (range_with_len a n) i 0 - a ≡ i = omega (arith, get_or-range_with_len a n i 0 l) in
+    subst (λ j. p j ≡ true) at (h i 0 (omega arith) (omega (arith, length-range_with_len a n)))))
+all_of_range p a n false h =
+    let l : h.0 < n = omega (arith, h.1, length-range_with_len a n) in
+    let at : get_or (range_with_len a n) h.0 0 - a ≡ h.0 = omega (arith, get_or-range_with_len a n h.0 0 l) in
+    sym (all_stops p n h.0 l (subst (λ j. p j ≡ false) at (h.2 0)))
 
 module _ (t : List ℕ) where
   -- ---- the cases of reading
@@ -81,13 +99,10 @@ module _ (t : List ℕ) where
 
   -- ---- question 12 of two bands
 
-  pub one_record : records t < 1 → question12 t ≡ true
-  unfolding question12 all_below
-  one_record h = let e : records t - 1 ≡ 0 = omega arith in rw e
-
-  pub rise_read : (i : ℕ) (before b : Band) → before ≡ band_at t i → b ≡ band_at t (i + 1) → leb b.rate before.rate ≡ no_rise t i
+  -- of band j, with the one before it
+  pub rise_read : (j : ℕ) (before b : Band) → 1 ≤ j → before ≡ band_at t (j - 1) → b ≡ band_at t j → leb b.rate before.rate ≡ no_rise t (j - 1)
   unfolding no_rise
-  rise_read i before b e f = rw (e, f, add-one)
+  rise_read j before b l e f = let next : suc (j - 1) ≡ j = omega arith in rw (e, f, next)
 
   -- ---- what the questions say
 
@@ -157,13 +172,13 @@ module _ (t : List ℕ) (b : Bands) (accepts : tariff_reading t ≡ accepted b) 
 
 -- ---- for callers that take the answer apart
 
-pub read_accepted : (a : Answer Bands) (r : TariffReading) → ReadAs a r → r.answer ≡ Accepted → (b : Bands) × (a ≡ accepted b) × PricesAs b r.tariff
-read_accepted (accepted b) r e h = (b, refl, e.1)
-read_accepted (refused k) r e h = absurd (let z : ◌≡◌ {A = ℕ} 0 1 = let q : Refused k ≡ Accepted = sym e ∙ h in cc in omega arith)
+pub read_accepted : (a : Answer Bands) (tariff : Tariff) → ReadAs a (Ok tariff) → (b : Bands) × (a ≡ accepted b) × PricesAs b tariff
+read_accepted (accepted b) tariff e = (b, refl, e)
+read_accepted (refused k) tariff e = absurd e
 
-pub read_refused : (a : Answer Bands) (r : TariffReading) (k : ℕ) → ReadAs a r → r.answer ≡ Refused k → a ≡ refused k
-read_refused (accepted b) r k e h = absurd (let z : ◌≡◌ {A = ℕ} 0 1 = let q : Accepted ≡ Refused k = sym e.0 ∙ h in cc in omega arith)
-read_refused (refused j) r k e h = let same : j ≡ k = let q : Refused j ≡ Refused k = sym e ∙ h in cc in ap refused same
+pub read_refused : (a : Answer Bands) (refusal : Refusal) → ReadAs a (Err refusal) → a ≡ refused (number_of refusal)
+read_refused (accepted b) refusal e = absurd e
+read_refused (refused k) refusal e = ap refused (sym e)
 
 -- the hauls of a tariff fit the four bytes of an amount
 pub prices_fit : (b : Bands) (t : Tariff) → PricesAs b t → (d : ℕ) → d ≤ t.reach → price_of t d < amount_end

@@ -9,7 +9,11 @@ use mathlib.Core.Path.{◌≡◌, refl, sym, ap, ap₂, subst, ◌∙◌}
 use mathlib.Core.Bool.{Bool, true}
 use mathlib.Core.Logic.{◌⊎◌, inl, inr}
 use borrow.Author.Tests.{ltb-true, ltb-false, lt-ltb, le-ltb}
+use mathlib.Core.List.{List}
 use lib.Dec.{ltb}
+use lib.ListN.{length, get_or, take}
+use Rattle.std.specs.List.{sum_by}
+use Rattle.std.proofs.lemmas.List.Sums.{sum_by_more}
 use Rattle.model.specs.Loops.{sum}
 use Rattle.model.proofs.CountLaws.{count_le, count_downward}
 use Rattle.model.proofs.LoopLaws.{last_or}
@@ -52,6 +56,13 @@ cost_none band = refl
 pub cost_more : (band : ℕ → Band) (i cost more : ℕ) → cost ≡ cost_before band i → more ≡ whole_charge (band i) → cost + more ≡ cost_before band (i + 1)
 unfolding cost_before sum
 cost_more band i cost more e f = rw add-one (ap₂ ◌+◌ e f)
+
+-- bands in a list: what the first i of them come to, added up over the list
+pub sum_front : (f : Band → ℕ) (bands : List Band) (none : Band) (i : ℕ) → i ≤ length bands → sum_by f (take i bands) ≡ sum i (λ j. f (get_or bands j none))
+unfolding sum
+sum_front f bands none zero l = refl
+sum_front f bands none (suc i) l =
+    rw (← add-one) (sum_by_more f bands i none (omega arith) ∙ ap (λ (x : ℕ). x + f (get_or bands i none)) (sum_front f bands none i (omega arith)))
 
 -- ---- bands that join
 

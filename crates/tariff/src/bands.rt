@@ -19,15 +19,13 @@ impl Band {
     pub fn whole_charge(self) -> u32
         ensures { result ≡ whole_charge self }
     {
-        if self.end < self.start {
-            return 0;
-        }
-        ((self.end - self.start) as u32) * (self.rate as u32)
+        u32::from(self.end.saturating_sub(self.start)) * u32::from(self.rate)
     }
 }
 
 // A tariff to price by. In band i a haul is the distance times the rate, and the intercept: what the bands before cost more than they
 // would at this rate. The last band has the number `last` and ends at `reach`.
+// Stays three arrays with a count, not one of structs: the public clause `starts` of `house_tariff` says `line_of result.rates result.intercepts`.
 #[derive(Clone, Copy)]
 pub struct Tariff {
     pub last: usize,

@@ -41,6 +41,7 @@ pub const HOUSE: [Band; HOUSE_BANDS] = [
 ];
 
 // What all the bands before each one cost.
+// Stays a table of its own beside the bands: document 02, paper 6, asks for the constant table, and the type of `HOUSE` is public.
 const HOUSE_STARTS: [u32; HOUSE_BANDS] = [0, 4000, 9100, 16100, 27100, 45100];
 
 // The house tariff, which every call may go by. It prices as its bands do, and each band's line begins at the table's entry.
@@ -49,10 +50,8 @@ pub fn house_tariff() -> Tariff
     ensures starts { (i : ℕ) → i < house.count → line_of result.rates result.intercepts i (house.band i).start ≡ get_or house_starts i 0 }
 {
     let mut tariff = Tariff::without_bands();
-    let mut i = 0;
-    while i < HOUSE_BANDS {
+    for i in 0..HOUSE_BANDS {
         tariff = tariff.with_band(i, HOUSE[i], HOUSE_STARTS[i]);
-        i += 1;
     }
     tariff
 }

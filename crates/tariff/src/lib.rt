@@ -14,7 +14,7 @@ mod reading;
 pub use bands::{Band, Tariff};
 pub use house::{HOUSE, HOUSE_BANDS, house_tariff};
 pub use passed::{BLOCK, bands_of};
-pub use reading::{TariffAnswer, TariffReading, read_tariff};
+pub use reading::read_tariff;
 
 // What the amounts of a sheet's haul records are: hauls as written, or distances by the house tariff or by one that is given.
 #[derive(Clone, Copy)]

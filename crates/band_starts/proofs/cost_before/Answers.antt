@@ -1,34 +1,21 @@
-use mathlib.Core.Path.{◌≡◌}
-use Prim.Native.Nat.{◌+◌}
-use native.Mathlib.Omega.{arith}
-use Rattle.tariff.specs.House.{house}
-use Rattle.tariff.proofs.StartLaws.{cost_none, cost_more}
-use Rattle.tariff.proofs.MakingLaws.{cost_fits}
-use Rattle.tariff.proofs.HouseLaws.{house_allowed}
+-- `cost_before` meets its contract: the bands before band i are charged whole, one after the other.
+use mathlib.Core.Path.{◌≡◌, ◌∙◌}
+use Prim.Native.Nat.{◌<◌, ◌^◌}
+use lib.ListN.{take}
+use borrow.Author.Rules.{rules}
+use Rattle.std.proofs.iter.runs.Made.{chains}
+use Rattle.std.specs.List.{sum_by}
+use Rattle.tariff.specs.Bands.{whole_charge}
+use Rattle.tariff.specs.House.{house_bands}
+use Rattle.tariff.proofs.HouseLaws.{charges_fit, charges_are}
 use Rattle.band_starts.proofs.cost_before.Goals as goal
 
-pub loop-j-init : goal.loop-j-init
-loop-j-init c = (omega arith, cost_none _)
-
-pub offset_bounds-j : goal.offset_bounds-j
-offset_bounds-j c = omega arith
-
-pub bounds-j-j : goal.bounds-j-j
-bounds-j-j c = omega arith
-
-pub overflow_add-cost : goal.overflow_add-cost
-overflow_add-cost c = let sum = cost_more house.band _ _ _ c.loop-j.invariant.1 c.whole_charge-cost.ensures in
-    omega (arith, sum, cost_fits house house_allowed (c.loop-j.j + 1) (omega arith))
-
-pub overflow_add-j : goal.overflow_add-j
-overflow_add-j c = omega arith
-
-pub loop-j-smaller : goal.loop-j-smaller
-loop-j-smaller c = omega arith
-
-pub loop-j-preserved : goal.loop-j-preserved
-loop-j-preserved c = (omega arith, cost_more house.band _ _ _ c.loop-j.invariant.1 c.whole_charge-cost.ensures)
+pub sum-requires-clause-fits : goal.sum-requires-clause-fits
+sum-requires-clause-fits c =
+    let fits : sum_by (λ b. whole_charge b) (take c.args.i house_bands) < 2 ^ 32 = charges_fit c.args.i c.requires in
+    search (rules, chains)
 
 pub returns : goal.returns
-returns c = let e : c.loop-j.j ≡ c.args.i = omega arith in
-    rw (← e) c.loop-j.invariant.1
+returns c =
+    let charged : c.sum.result ≡ sum_by (λ b. whole_charge b) (take c.args.i house_bands) = search (rules, chains) in
+    charged ∙ charges_are c.args.i c.requires

@@ -13,9 +13,6 @@ returns-then-hauls-lt-MOST_BYTES c = record { hauls = sym (short_room _ _ _ _ c.
 pub price_into-requires : goal.price_into-requires
 price_into-requires c = (c.if-hauls-lt-MOST_BYTES.false, prices_fit house _ c.house_tariff.ensures.prices)
 
-pub price_given-requires : goal.price_given-requires
-price_given-requires c = c.if-hauls-lt-MOST_BYTES.false
-
 pub returns-in-NoTariff : goal.returns-in-NoTariff
 unfolding sheet_by
 returns-in-NoTariff c = let a = c.args in

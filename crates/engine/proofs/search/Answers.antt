@@ -1,4 +1,6 @@
 -- `search` meets its contract.
+use mathlib.Core.Path.{ap}
+use Rattle.std.specs.Prelude.{Some}
 use Rattle.model.proofs.Bools.{said_no, said_yes}
 use Rattle.tables.proofs.LentTableLaws.{good_when}
 use Rattle.engine.specs.SearchOnTables.{searching}
@@ -21,4 +23,4 @@ search_on-requires c = (said_yes c.tables_good.ensures c.if-not-tables_good.fals
 
 pub returns : goal.returns
 unfolding searching
-returns c = rw (said_yes c.tables_good.ensures c.if-not-tables_good.false, said_yes c.start_good.ensures c.if-not-start_good.false) c.search_on.ensures
+returns c = rw (said_yes c.tables_good.ensures c.if-not-tables_good.false, said_yes c.start_good.ensures c.if-not-start_good.false) (ap Some c.search_on.ensures)

@@ -11,7 +11,7 @@ prepare-requires c = (c.requires.0, blank)
 pub first_set-first-requires : goal.first_set-first-requires
 first_set-first-requires c = let a = c.args in
     let done = c.prepare.ensures in
-    (done.sums.rows, done.openings_good, (good_when a.m a.n a.opening.now a.service.now c.requires.0).some_facility, done.sums.room, done.columns)
+    (done.openings_good, (good_when a.m a.n a.opening.now a.service.now c.requires.0).some_facility, done.sums.room, done.columns)
 
 pub descend-requires : goal.descend-requires
 descend-requires c = let a = c.args in

@@ -4,4 +4,4 @@ use Rattle.numbers.specs.Numbers.{second_number}
 use Rattle.exports.proofs.planner_second.Goals as goal
 
 pub returns : goal.returns
-returns c = rw (← c.choice_of.ensures) (c.second_number.ensures ∙ ap second_number c.second_by-second.ensures)
+returns c = rw (← c.choice_of.ensures) (c.second_number.ensures ∙ ap second_number (c.second_parts.ensures ∙ c.second_by-second.ensures))

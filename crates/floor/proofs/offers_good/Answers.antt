@@ -6,30 +6,21 @@ use Rattle.record.proofs.RecordLaws.{whole}
 use Rattle.floor.proofs.OfferingLaws.{wrong_length, right_length, offer_read}
 use Rattle.floor.proofs.offers_good.Goals as goal
 
-pub overflow_mul-n : goal.overflow_mul-n
-overflow_mul-n c = omega arith
-
 pub returns-then-offers-n : goal.returns-then-offers-n
 returns-then-offers-n c = sym (wrong_length _ _ (λ e. omega arith))
 
 pub loop-farm-init : goal.loop-farm-init
-loop-farm-init c = (omega arith, c.if-offers-n.false, all_none _)
+loop-farm-init c = (c.if-offers-n.false, all_none _)
 
 pub returns-then-not-is_offer : goal.returns-then-not-is_offer
 returns-then-not-is_offer c = let test = c.is_offer.ensures ∙ offer_read _ _ _ (c.at.ensures ∙ whole _ _ (omega arith)) in
-    sym (right_length _ _ c.loop-farm.invariant.1 ∙ all_stops _ _ c.loop-farm.farm (omega arith) (said_no test c.if-not-is_offer.true))
-
-pub overflow_add-farm : goal.overflow_add-farm
-overflow_add-farm c = omega arith
-
-pub loop-farm-smaller : goal.loop-farm-smaller
-loop-farm-smaller c = omega arith
+    sym (right_length _ _ c.loop-farm.invariant.0 ∙ all_stops _ _ c.loop-farm.farm (omega arith) (said_no test c.if-not-is_offer.true))
 
 pub loop-farm-preserved : goal.loop-farm-preserved
 loop-farm-preserved c = let test = c.is_offer.ensures ∙ offer_read _ _ _ (c.at.ensures ∙ whole _ _ (omega arith)) in
-    (omega arith, c.loop-farm.invariant.1, all_more _ _ c.loop-farm.invariant.2 (said_yes test c.if-not-is_offer.false))
+    (c.loop-farm.invariant.0, all_more _ _ c.loop-farm.invariant.1 (said_yes test c.if-not-is_offer.false))
 
 pub returns : goal.returns
 returns c = let l = c.loop-farm in
     let e : l.farm ≡ c.args.n = omega arith in
-    rw e at l.invariant.2 ∙ sym (right_length _ _ l.invariant.1)
+    rw e at l.invariant.1 ∙ sym (right_length _ _ l.invariant.0)

@@ -10,9 +10,9 @@ use Rattle.nearest.specs.Nearest.{yards_on}
 use Rattle.nearest.specs.Choices.{choice, choice_of}
 use Rattle.nearest.proofs.choice_of.Goals as goal
 
-pub returns-then-lesser-at : goal.returns-then-lesser-at
+pub returns-then-min-at : goal.returns-then-min-at
 unfolding choice_of
-returns-then-lesser-at c = let a = c.args in
+returns-then-min-at c = let a = c.args in
     record {
       choice = rw (le-ltb a.yard (yards_on a.fees.now a.hauls.now) (omega arith));
       small = (search rules, (λ l. absurd (omega arith)));

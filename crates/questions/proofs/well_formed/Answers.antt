@@ -1,5 +1,7 @@
 -- `well_formed` meets its contract: each arm of the `match` is a case of `well_formed`.
+use native.Mathlib.Omega.{arith}
 use borrow.Author.Tests.{ne_eqb}
+use Rattle.questions.specs.Bounds.{yard_kind, haul_kind}
 use Rattle.questions.specs.Questions.{well_formed}
 use Rattle.questions.proofs.well_formed.Goals as goal
 
@@ -17,4 +19,5 @@ returns-in-72 c = rw c.in-72.is
 
 pub returns-in_default : goal.returns-in_default
 unfolding well_formed
-returns-in_default c = simp (ne_eqb _ _ c.in_default.in_default-own.rest.1, ne_eqb _ _ c.in_default.in_default-own.rest.0.1)
+returns-in_default c = let kind = c.args.record.kind in
+    simp (ne_eqb kind yard_kind (λ e. omega arith), ne_eqb kind haul_kind (λ e. omega arith))

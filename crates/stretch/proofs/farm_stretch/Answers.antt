@@ -1,18 +1,17 @@
 -- `farm_stretch` meets its contract: each `return` is a case of `stretch`, and the offsets are small.
-use mathlib.Core.Path.{sym, ap, ◌∙◌}
+use mathlib.Core.Path.{refl, sym}
 use native.Mathlib.Omega.{arith}
-use native.Mathlib.Nat.{add-sub_cancel_left}
-use Prim.Native.Nat.{ℕ, ◌+◌, ◌*◌}
-use lib.ListN.{take, drop}
 use Rattle.model.proofs.PlaceLaws.{few_places}
-use Rattle.stretch.proofs.StretchLaws.{stretch_is, no_such_yards, no_such_farm, too_short}
+use Rattle.stretch.proofs.StretchLaws.{no_such_yards, no_such_farm, stretch_got}
 use Rattle.stretch.proofs.farm_stretch.Goals as goal
+use Rattle.stretch.proofs.farm_stretch.Goals.{then-yards-gt-MOST_YARDS-via-then-yards-gt-MOST_YARDS, then-yards-gt-MOST_YARDS-via-else-yards-gt-MOST_YARDS+then-farm-ge-MOST_FARMS}
 
 pub returns-then-yards-gt-MOST_YARDS : goal.returns-then-yards-gt-MOST_YARDS
-returns-then-yards-gt-MOST_YARDS c = sym (no_such_yards _ _ _ c.if-yards-gt-MOST_YARDS.true)
-
-pub returns-then-farm-ge-MOST_FARMS : goal.returns-then-farm-ge-MOST_FARMS
-returns-then-farm-ge-MOST_FARMS c = sym (no_such_farm _ _ _ (omega arith) c.if-farm-ge-MOST_FARMS.true)
+returns-then-yards-gt-MOST_YARDS c = elim c.then-yards-gt-MOST_YARDS.branch [
+  | then-yards-gt-MOST_YARDS-via-then-yards-gt-MOST_YARDS w ↦ sym (no_such_yards _ _ _ w.if-yards-gt-MOST_YARDS.true)
+  | then-yards-gt-MOST_YARDS-via-else-yards-gt-MOST_YARDS+then-farm-ge-MOST_FARMS w ↦
+      sym (no_such_farm _ _ _ w.if-yards-gt-MOST_YARDS.false w.if-farm-ge-MOST_FARMS.true)
+]
 
 pub overflow_mul-from : goal.overflow_mul-from
 overflow_mul-from c = omega (arith, few_places c.args.yards c.args.farm (omega arith) (omega arith))
@@ -23,13 +22,6 @@ overflow_add-from c = omega (arith, few_places c.args.yards c.args.farm (omega a
 pub overflow_mul-from-2 : goal.overflow_mul-from-2
 overflow_mul-from-2 c = omega (arith, few_places c.args.yards c.args.farm (omega arith) (omega arith))
 
-pub overflow_add-to : goal.overflow_add-to
-overflow_add-to c = omega (arith, few_places c.args.yards c.args.farm (omega arith) (omega arith))
-
-pub returns-then-sheet-to : goal.returns-then-sheet-to
-returns-then-sheet-to c = sym (too_short _ _ _ (omega arith) (omega arith) (omega arith))
-
 pub returns : goal.returns
 returns c = let a = c.args in
-    ap (λ (k : ℕ). take k (drop (8 * (a.yards + a.farm * a.yards)) a.sheet.now)) (add-sub_cancel_left (8 * (a.yards + a.farm * a.yards)) (8 * a.yards))
-    ∙ sym (stretch_is _ _ _ (omega arith) (omega arith) (omega arith))
+    stretch_got a.sheet.now a.yards a.farm c.get.result _ _ (omega arith) (omega arith) refl c.get.ensures.lookup c.unwrap_or.ensures

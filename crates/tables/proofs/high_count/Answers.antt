@@ -1,40 +1,21 @@
+-- `high_count` meets its contract: the sum of the tests is how many hold, and no more than there are.
+use Rattle.std.proofs.Common.{rules, ◌≡◌, ◌∙◌, ◌<◌, ◌^◌}
+use Rattle.std.specs.List.{sum_by}
+use Rattle.std.proofs.iter.runs.Made.{chains}
+use Rattle.std.proofs.lemmas.List.Sums.{count_by-le-length}
 use native.Mathlib.Omega.{arith}
-use mathlib.Core.Path.{◌≡◌, ◌∙◌}
-use Rattle.model.proofs.SumLaws.{sum_none}
-use Rattle.tables.proofs.LentTableLaws.{counts_high, counts_low}
+use lib.Dec.{ltb}
+use mir.Val.{bool_byte}
+use Rattle.model.proofs.RangeLaws.{sum_tests}
+use Rattle.tables.specs.Bounds.{most_entry}
 use Rattle.tables.proofs.high_count.Goals as goal
-use Rattle.tables.proofs.high_count.Goals.{then-service-k-gt-MOST_ENTRY, else-service-k-gt-MOST_ENTRY}
 
-pub loop-k-init : goal.loop-k-init
-loop-k-init c = (omega arith, sum_none _)
-
-pub offset_bounds-service-k : goal.offset_bounds-service-k
-offset_bounds-service-k c = omega arith
-
-pub bounds-service-k : goal.bounds-service-k
-bounds-service-k c = omega arith
-
-pub overflow_add-total : goal.overflow_add-total
-overflow_add-total c = let l = c.loop-k in
-    omega (arith, c.requires.1, (counts_high c.args.service.now l.k _ l.invariant.1 c.if-service-k-gt-MOST_ENTRY.true).1)
-
-pub overflow_add-k : goal.overflow_add-k
-overflow_add-k c = omega arith
-
-pub loop-k-smaller : goal.loop-k-smaller
-loop-k-smaller c = omega arith
-
-pub loop-k-preserved : goal.loop-k-preserved
-loop-k-preserved c = let service = c.args.service.now in
-    let l = c.loop-k in (
-      omega arith,
-      elim c.if-service-k-gt-MOST_ENTRY.branch [
-        | then-service-k-gt-MOST_ENTRY w ↦ w.total-is ∙ (counts_high service l.k _ l.invariant.1 w.if-service-k-gt-MOST_ENTRY.true).0
-        | else-service-k-gt-MOST_ENTRY w ↦ w.total-is ∙ counts_low service l.k _ l.invariant.1 w.if-service-k-gt-MOST_ENTRY.false
-      ],
-    )
+pub sum-requires-clause-fits : goal.sum-requires-clause-fits
+sum-requires-clause-fits c = let entries = c.args.entries.now in
+    let fits : sum_by (λ entry. bool_byte (ltb most_entry entry)) entries < 2 ^ 32 =
+    omega (arith, sum_tests (ltb most_entry) entries, count_by-le-length (ltb most_entry) entries) in
+    search (rules, chains)
 
 pub returns : goal.returns
-returns c = let l = c.loop-k in
-    let e : l.k ≡ c.args.places = omega arith in
-    rw e at l.invariant.1
+returns c = let sum : c.sum.result ≡ sum_by (λ entry. bool_byte (ltb most_entry entry)) c.args.entries.now = search (rules, chains) in
+    sum ∙ sum_tests (ltb most_entry) c.args.entries.now

@@ -4,7 +4,8 @@ use native.Mathlib.Omega.{arith}
 use Prim.Native.Nat.{◌*◌}
 use lib.ListN.{length}
 use Rattle.record.specs.Records.{records}
-use Rattle.questions.specs.Reading.{reading_answer}
+use Rattle.std.proofs.lemmas.Result.{err_from_is_err_and}
+use Rattle.refusal.specs.Numbers.{answer_of}
 use Rattle.tariff.specs.Pricing.{price_of}
 use Rattle.distances.specs.Priced.{priced_sheet}
 use Rattle.distances.specs.Lent.{formed}
@@ -31,15 +32,16 @@ returns-then-price_all c = let put = c.price_all in
       room = omega (arith, c.if-sheet-gt-MOST_BYTES.false, c.requires.0);
     }
 
-pub returns-in-Accepted : goal.returns-in-Accepted
-returns-in-Accepted c = let s = c.args.sheet.now in
+pub returns : goal.returns
+returns c = let s = c.args.sheet.now in
     record {
-      hauls = sym (refuses_13 _ _ _ _ _ (sym c.form_and_loads_of.ensures ∙ ap reading_answer c.in-Accepted.is) (sym c.price_all.ensures.within ∙ c.if-price_all.false));
+      hauls = sym (refuses_13 _ _ _ _ _ (sym c.form_and_loads_of.ensures ∙ ap answer_of c.in_ok-form_and_loads_of.was) (sym c.price_all.ensures.within ∙ c.if-price_all.false));
       room = tt;
     }
 
-pub returns-in-Refused : goal.returns-in-Refused
-returns-in-Refused c = record {
-  hauls = sym (form_refuses _ _ _ _ (sym c.form_and_loads_of.ensures ∙ ap reading_answer c.in-Refused.is));
-  room = tt;
-}
+pub returns-in_err-form_and_loads_of : goal.returns-in_err-form_and_loads_of
+returns-in_err-form_and_loads_of c = let p = err_from_is_err_and c.from_residual.result c.from_residual.ensures.1 in
+    rw (p.1, p.2) record {
+      hauls = sym (form_refuses _ _ _ _ (sym c.form_and_loads_of.ensures ∙ ap answer_of c.in_err-form_and_loads_of.was));
+      room = tt;
+    }

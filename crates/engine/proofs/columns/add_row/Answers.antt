@@ -5,7 +5,7 @@ use Rattle.engine.proofs.columns.ColumnLaws.{row_added_none, sum_small, row_adde
 use Rattle.engine.proofs.columns.add_row.Goals as goal
 
 pub loop-i-init : goal.loop-i-init
-loop-i-init c = (omega arith, refl, row_added_none c.args.service.now c.args.row c.args.kept.now)
+loop-i-init c = (refl, row_added_none c.args.service.now c.args.row c.args.kept.now)
 
 pub overflow_add-kept : goal.overflow_add-kept
 overflow_add-kept c = omega arith
@@ -32,7 +32,7 @@ pub overflow_add-kept-in-loop-i-2 : goal.overflow_add-kept-in-loop-i-2
 overflow_add-kept-in-loop-i-2 c = let l = c.loop-i in
     let a = c.args in
     record {
-      fits = sum_small a.service.now a.row a.kept.now a.width l.i l.kept (omega arith) c.requires l.invariant.2;
+      fits = sum_small a.service.now a.row a.kept.now a.width l.i l.kept (omega arith) c.requires l.invariant.1;
     }
 
 pub overflow_add-kept-in-loop-i-3 : goal.overflow_add-kept-in-loop-i-3
@@ -44,19 +44,12 @@ offset_bounds-kept-i-in-loop-i c = omega arith
 pub bounds-kept-i-in-loop-i : goal.bounds-kept-i-in-loop-i
 bounds-kept-i-in-loop-i c = omega arith
 
-pub overflow_add-i : goal.overflow_add-i
-overflow_add-i c = omega arith
-
-pub loop-i-smaller : goal.loop-i-smaller
-loop-i-smaller c = omega arith
-
 pub loop-i-preserved : goal.loop-i-preserved
 loop-i-preserved c = let a = c.args in
     let l = c.loop-i in (
-      omega arith,
-      simp length-set l.invariant.1,
-      row_added_more a.service.now a.row a.kept.now l.i l.kept (omega arith) l.invariant.2,
+      simp length-set l.invariant.0,
+      row_added_more a.service.now a.row a.kept.now l.i l.kept (omega arith) l.invariant.1,
     )
 
 pub returns : goal.returns
-returns c = let e : c.loop-i.i ≡ c.args.width = omega arith in rw e at c.loop-i.invariant.2
+returns c = let e : c.loop-i.i ≡ c.args.width = omega arith in rw e at c.loop-i.invariant.1

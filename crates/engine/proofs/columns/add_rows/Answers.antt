@@ -8,32 +8,26 @@ columns-width-requires c = omega arith
 
 pub loop-j-init : goal.loop-j-init
 loop-j-init c = let a = c.args in
-    (omega arith, c.columns-width.ensures, refl, columns_none a.m a.service.now a.kept.now c.requires.2, aside_none a.kept.now)
+    (c.columns-width.ensures, refl, columns_none a.service.m a.service.costs.now a.kept.now c.requires.1, aside_none a.kept.now)
 
 pub overflow_mul-j : goal.overflow_mul-j
 overflow_mul-j c = let a = c.args in
     let l = c.loop-j in
-    let can = columns_ready a.m a.service.now a.n l.j l.kept c.requires.0 (omega arith) (omega arith) l.invariant.3 in
+    let can = columns_ready a.service.m a.service.costs.now a.service.n l.j l.kept c.args.service.rows (omega arith) (omega arith) l.invariant.2 in
     omega (arith, can.row_room)
 
 pub add_row-requires : goal.add_row-requires
 add_row-requires c = let a = c.args in
     let l = c.loop-j in
-    rw l.invariant.1 (columns_ready a.m a.service.now a.n l.j l.kept c.requires.0 (omega arith) (omega arith) l.invariant.3)
-
-pub overflow_add-j : goal.overflow_add-j
-overflow_add-j c = omega arith
-
-pub loop-j-smaller : goal.loop-j-smaller
-loop-j-smaller c = omega arith
+    rw l.invariant.0 (columns_ready a.service.m a.service.costs.now a.service.n l.j l.kept c.args.service.rows (omega arith) (omega arith) l.invariant.2)
 
 pub loop-j-preserved : goal.loop-j-preserved
 loop-j-preserved c = let a = c.args in
     let l = c.loop-j in
-    let added = rw l.invariant.1 at c.add_row.ensures in
-    (omega arith, l.invariant.1, omega arith, columns_more a.m a.service.now l.j l.kept _ l.invariant.3 added, aside_more l.invariant.4 added)
+    let added = rw l.invariant.0 at c.add_row.ensures in
+    (l.invariant.0, omega arith, columns_more a.service.m a.service.costs.now l.j l.kept _ l.invariant.2 added, aside_more l.invariant.3 added)
 
 pub returns : goal.returns
 returns c = let l = c.loop-j in
-    let e : l.j ≡ c.args.n = omega arith in
-    record { sums = rw e at l.invariant.3; aside = l.invariant.4 }
+    let e : l.j ≡ c.args.service.n = omega arith in
+    record { sums = rw e at l.invariant.2; aside = l.invariant.3 }

@@ -8,7 +8,7 @@ use Rattle.model.proofs.PlaceLaws.{front_more}
 use Rattle.engine.proofs.cost.add_up.Goals as goal
 
 pub loop-i-init : goal.loop-i-init
-loop-i-init c = (omega arith, refl, λ k l. absurd (not-suc-le-zero l))
+loop-i-init c = (refl, λ k l. absurd (not-suc-le-zero l))
 
 pub offset_bounds-opening-i : goal.offset_bounds-opening-i
 offset_bounds-opening-i c = omega arith
@@ -35,22 +35,15 @@ pub offset_bounds-costs-i : goal.offset_bounds-costs-i
 offset_bounds-costs-i c = omega arith
 
 pub bounds-costs-i : goal.bounds-costs-i
-bounds-costs-i c = omega (arith, c.requires.costs_room, c.loop-i.invariant.1)
-
-pub overflow_add-i : goal.overflow_add-i
-overflow_add-i c = omega arith
-
-pub loop-i-smaller : goal.loop-i-smaller
-loop-i-smaller c = omega arith
+bounds-costs-i c = omega (arith, c.requires.costs_room, c.loop-i.invariant.0)
 
 pub loop-i-preserved : goal.loop-i-preserved
 loop-i-preserved c = let a = c.args in
     let l = c.loop-i in (
-      omega arith,
-      simp length-set l.invariant.1,
+      simp length-set l.invariant.0,
       front_more (λ k. a.opened + get_or a.opening.now k 0 + get_or a.kept.now (added_from + k) 0) l.i _ l.costs
-          (omega (arith, c.requires.costs_room, l.invariant.1)) refl l.invariant.2,
+          (omega (arith, c.requires.costs_room, l.invariant.0)) refl l.invariant.1,
     )
 
 pub returns : goal.returns
-returns c = λ k l. c.loop-i.invariant.2 k (omega arith)
+returns c = λ k l. c.loop-i.invariant.1 k (omega arith)

@@ -1,33 +1,28 @@
-use Rattle.engine.proofs.BestMoveLaws.{openings_none, openings_more}
 use native.Mathlib.Omega.{arith}
-use mathlib.Core.Path.{◌≡◌}
+use Prim.Native.Nat.{ℕ, ◌+◌}
+use mathlib.Core.Path.{◌≡◌, sym, ap, ◌∙◌}
+use lib.ListN.{length, get_or}
+use Rattle.engine.specs.Moves.{listed_openings}
+use Rattle.model.proofs.SumLaws.{sum_none, sum_more}
 use Rattle.engine.proofs.cost.openings_of.Goals as goal
 
-pub loop-t-init : goal.loop-t-init
-loop-t-init c = (omega arith, omega arith, openings_none _ _)
+pub loop-o-init : goal.loop-o-init
+loop-o-init c = (omega arith, sum_none _)
 
-pub offset_bounds-opening-list : goal.offset_bounds-opening-list
-offset_bounds-opening-list c = omega (arith, c.requires.below c.loop-t.t c.loop-t-test.true)
-
-pub bounds-opening-list : goal.bounds-opening-list
-bounds-opening-list c = omega (arith, c.requires.opening_room, c.requires.below c.loop-t.t c.loop-t-test.true)
+pub bounds-opening-o : goal.bounds-opening-o
+bounds-opening-o c = omega (arith, c.requires.opening_room, c.requires.below _ c.loop-o-test.true)
 
 pub overflow_add-total : goal.overflow_add-total
-overflow_add-total c = omega (arith, c.requires.few, c.requires.small c.loop-t.t c.loop-t-test.true)
+overflow_add-total c = omega (arith, c.requires.few, c.requires.small _ c.loop-o-test.true)
 
-pub overflow_add-t : goal.overflow_add-t
-overflow_add-t c = omega arith
-
-pub loop-t-smaller : goal.loop-t-smaller
-loop-t-smaller c = omega arith
-
-pub loop-t-preserved : goal.loop-t-preserved
-loop-t-preserved c = let l = c.loop-t in (
-  omega arith,
-  omega (arith, c.requires.small l.t c.loop-t-test.true),
-  openings_more _ _ _ _ l.invariant.2,
-)
+pub loop-o-preserved : goal.loop-o-preserved
+loop-o-preserved c = let l = c.loop-o in
+    let cost : ℕ → ℕ = λ t. get_or c.args.opening.now (get_or c.args.list.now t 0) 0 in (
+      omega (arith, c.requires.small _ c.loop-o-test.true),
+      ap (λ (x : ℕ). x + cost l.o-index) l.invariant.1 ∙ sym (sum_more cost l.o-index),
+    )
 
 pub returns : goal.returns
-returns c = let e : c.loop-t.t ≡ c.args.count = omega arith in
-    rw e at c.loop-t.invariant.2
+unfolding listed_openings
+returns c = let e : c.loop-o.o-index ≡ length c.args.list.now = omega arith in
+    rw e at c.loop-o.invariant.1

@@ -15,8 +15,8 @@ cost_now-requires c = (c.begin.ensures, c.requires.2)
 
 pub loop-neighbourhood-init : goal.loop-neighbourhood-init
 loop-neighbourhood-init c = let a = c.args in
-    let cost = table_cost a.m a.n a.opening.now a.service.now in
-    (going_starts cost (neighbours_by a.neighbourhood a.m) a.limit a.start _ c.cost_now.ensures, c.begin.ensures, refl)
+    let cost = table_cost a.service.m a.service.n a.opening.now a.service.costs.now in
+    (going_starts cost (neighbours_by a.neighbourhood a.service.m) a.limit a.start _ c.cost_now.ensures, c.begin.ensures, refl)
 
 pub choose-next-requires : goal.choose-next-requires
 choose-next-requires c = let l = c.loop-neighbourhood in
@@ -25,11 +25,11 @@ choose-next-requires c = let l = c.loop-neighbourhood in
 pub move_to-requires : goal.move_to-requires
 move_to-requires c = let a = c.args in
     let l = c.loop-neighbourhood in
-    let cost = table_cost a.m a.n a.opening.now a.service.now in
+    let cost = table_cost a.service.m a.service.n a.opening.now a.service.costs.now in
     let to = c.choose-next in
-    let step = step_move a.neighbourhood a.m cost l.b to.result l.invariant.0.right to.ensures c.if-cost-lowest.false in
-    let keeps = move_keeps a.m l.b.set l.invariant.1.below to.result.set step in
-    (l.invariant.1, moved_is a.m l.b.set to.result.set l.invariant.1.sums.rows.few_facilities step, keeps.0, keeps.1)
+    let step = step_move a.neighbourhood a.service.m cost l.b to.result l.invariant.0.right to.ensures c.if-cost-lowest.false in
+    let keeps = move_keeps a.service.m l.b.set l.invariant.1.below to.result.set step in
+    (l.invariant.1, moved_is a.service.m l.b.set to.result.set l.invariant.1.sums.rows.few_facilities step, keeps.0, keeps.1)
 
 pub overflow_add-moves : goal.overflow_add-moves
 overflow_add-moves c = omega (arith, c.if-limit-moves.false, c.ranges.limit)
@@ -39,8 +39,8 @@ loop-neighbourhood-smaller c = c.if-cost-lowest.false
 
 pub loop-neighbourhood-preserved : goal.loop-neighbourhood-preserved
 loop-neighbourhood-preserved c = let a = c.args in
-    let cost = table_cost a.m a.n a.opening.now a.service.now in
-    let moves = neighbours_by a.neighbourhood a.m in
+    let cost = table_cost a.service.m a.service.n a.opening.now a.service.costs.now in
+    let moves = neighbours_by a.neighbourhood a.service.m in
     let l = c.loop-neighbourhood in (
       going_on cost moves a.limit a.start l.b _ _ l.invariant.0 c.choose-next.ensures c.if-cost-lowest.false c.if-limit-moves.false,
       c.move_to.ensures,
@@ -50,13 +50,13 @@ loop-neighbourhood-preserved c = let a = c.args in
 pub returns-then-cost-lowest : goal.returns-then-cost-lowest
 returns-then-cost-lowest c = let a = c.args in
     let l = c.loop-neighbourhood in
-    let cost = table_cost a.m a.n a.opening.now a.service.now in
-    let moves = neighbours_by a.neighbourhood a.m in
+    let cost = table_cost a.service.m a.service.n a.opening.now a.service.costs.now in
+    let moves = neighbours_by a.neighbourhood a.service.m in
     going_settles cost moves a.limit a.start l.b _ _ l.invariant.0 c.choose-next.ensures c.if-cost-lowest.true
 
 pub returns-then-limit-moves : goal.returns-then-limit-moves
 returns-then-limit-moves c = let a = c.args in
     let l = c.loop-neighbourhood in
-    let cost = table_cost a.m a.n a.opening.now a.service.now in
-    let moves = neighbours_by a.neighbourhood a.m in
+    let cost = table_cost a.service.m a.service.n a.opening.now a.service.costs.now in
+    let moves = neighbours_by a.neighbourhood a.service.m in
     going_stops cost moves a.limit a.start l.b _ _ l.invariant.0 c.choose-next.ensures c.if-cost-lowest.false c.if-limit-moves.true

@@ -6,18 +6,12 @@ use Rattle.engine.proofs.BestMoveLaws.{adds_more}
 use Rattle.engine.proofs.moves.best_add.Goals as goal
 
 pub loop-i-init : goal.loop-i-init
-loop-i-init c = (omega arith, through_none _ _)
-
-pub overflow_add-i : goal.overflow_add-i
-overflow_add-i c = omega arith
-
-pub loop-i-smaller : goal.loop-i-smaller
-loop-i-smaller c = omega arith
+loop-i-init c = through_none _ _
 
 pub loop-i-preserved : goal.loop-i-preserved
-loop-i-preserved c = (omega arith, adds_more _ _ _ _ _ _ c.loop-i.invariant.1 c.try_add-b.ensures)
+loop-i-preserved c = (adds_more _ _ _ _ _ _ c.loop-i.invariant c.try_add-b.ensures)
 
 pub returns : goal.returns
 unfolding best_add
 returns c = let e : c.loop-i.i ≡ c.args.m = omega arith in
-    rw e at c.loop-i.invariant.1
+    rw e at c.loop-i.invariant

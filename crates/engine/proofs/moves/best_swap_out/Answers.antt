@@ -22,7 +22,7 @@ pub returns-then-dear_count : goal.returns-then-dear_count
 returns-then-dear_count c = row_stays _ _ _ _ _ _ _ c.requires.0.few (sym c.dear_count.ensures ∙ c.if-dear_count.true)
 
 pub loop-i-init : goal.loop-i-init
-loop-i-init c = (omega arith, through_none _ _)
+loop-i-init c = through_none _ _
 
 pub overflow_add-price : goal.overflow_add-price
 overflow_add-price c = omega arith
@@ -47,17 +47,11 @@ overflow_add-price-in-loop-i c = let l = c.loop-i in
 pub overflow_sub-price : goal.overflow_sub-price
 overflow_sub-price c = omega (arith, c.requires.0.enough c.loop-i.i (omega (arith, c.requires.0.few)))
 
-pub overflow_add-i : goal.overflow_add-i
-overflow_add-i c = omega arith
-
-pub loop-i-smaller : goal.loop-i-smaller
-loop-i-smaller c = omega arith
-
 pub loop-i-preserved : goal.loop-i-preserved
-loop-i-preserved c = (omega arith, row_more _ _ _ _ _ _ _ _ _ _ c.loop-i.invariant.1 c.removed-without.ensures c.try_add-b.ensures)
+loop-i-preserved c = (row_more _ _ _ _ _ _ _ _ _ _ c.loop-i.invariant c.removed-without.ensures c.try_add-b.ensures)
 
 pub returns : goal.returns
 unfolding best_swap_out
 returns c = let l = c.loop-i in
     let e : l.i ≡ c.args.m = omega arith in
-    rw e at l.invariant.1
+    rw e at l.invariant

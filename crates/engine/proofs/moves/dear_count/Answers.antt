@@ -10,7 +10,7 @@ pub overflow_sub-lift : goal.overflow_sub-lift
 overflow_sub-lift c = omega (arith, c.requires.1)
 
 pub loop-i-init : goal.loop-i-init
-loop-i-init c = (omega arith, sum_none _)
+loop-i-init c = sum_none _
 
 pub overflow_add-total : goal.overflow_add-total
 overflow_add-total c = omega arith
@@ -40,26 +40,20 @@ unfolding dear_at
 overflow_add-total-in-loop-i-3 c = let a = c.args in
     let l = c.loop-i in
     let S = dear_at a.more.now a.at a.costs.now a.bound in
-    let next = counts_on S _ l.i _ l.invariant.1 (lifted _ a.bound _
+    let next = counts_on S _ l.i _ l.invariant (lifted _ a.bound _
     (omega (arith, c.requires.0.more_small l.i c.loop-i-test.true, c.requires.0.costs_small l.i c.loop-i-test.true)) c.requires.1 refl) in
     omega (arith, next.1)
-
-pub overflow_add-i : goal.overflow_add-i
-overflow_add-i c = omega arith
-
-pub loop-i-smaller : goal.loop-i-smaller
-loop-i-smaller c = omega arith
 
 pub loop-i-preserved : goal.loop-i-preserved
 unfolding dear_at
 loop-i-preserved c = let a = c.args in
     let l = c.loop-i in
     let S = dear_at a.more.now a.at a.costs.now a.bound in
-    let next = counts_on S _ l.i _ l.invariant.1 (lifted _ a.bound _
+    let next = counts_on S _ l.i _ l.invariant (lifted _ a.bound _
     (omega (arith, c.requires.0.more_small l.i c.loop-i-test.true, c.requires.0.costs_small l.i c.loop-i-test.true)) c.requires.1 refl) in
-    (omega arith, next.0)
+    (next.0)
 
 pub returns : goal.returns
 returns c = let l = c.loop-i in
     let e : l.i ≡ 32 = omega arith in
-    rw e at l.invariant.1
+    rw e at l.invariant

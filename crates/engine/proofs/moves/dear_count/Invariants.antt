@@ -1,12 +1,8 @@
 -- `moves::dear_count` meets its contract. The invariant: the total counts the prices passed that are not below the bound.
-use Prim.Native.Nat.{◌≤◌, ◌-◌}
 use mathlib.Core.Path.{◌≡◌}
 use Rattle.model.specs.Sets.{count}
 use Rattle.engine.specs.Rows.{dear_at}
 use Rattle.engine.proofs.moves.dear_count.Given as goal
 
 abbrev pub invariant-loop-i : goal.invariant-loop-i
-invariant-loop-i l = (l.i ≤ 32) × (l.total ≡ count l.i (dear_at l.more l.at l.costs l.bound))
-
-abbrev pub decreases-loop-i : goal.decreases-loop-i
-decreases-loop-i l = 32 - l.i
+invariant-loop-i l = (l.total ≡ count l.i (dear_at l.more l.at l.costs l.bound))

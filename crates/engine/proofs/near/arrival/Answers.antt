@@ -3,10 +3,10 @@ use borrow.Author.Tests.{lt-ltb, le-ltb}
 use Rattle.engine.specs.Near.{arrival_at}
 use Rattle.engine.proofs.near.arrival.Goals as goal
 
-pub returns-then-came-m : goal.returns-then-came-m
+pub returns-then-came-service : goal.returns-then-came-service
 unfolding arrival_at
-returns-then-came-m c = rw (lt-ltb _ _ c.if-came-m.true) c.packed_at.ensures
+returns-then-came-service c = rw (lt-ltb _ _ c.if-came-service.true) c.packed_at.ensures
 
 pub returns : goal.returns
 unfolding arrival_at
-returns c = rw (le-ltb _ _ c.if-came-m.false)
+returns c = rw (le-ltb _ _ c.if-came-service.false)

@@ -10,24 +10,24 @@ pub second_of-requires : goal.second_of-requires
 second_of-requires c = let a = c.args in
     let p = c.requires in
     let kept_is = c.inserted-with_arrival.ensures in
-    let first_is : c.if-with_arrival-went.first ≡ (near_two a.m a.service.now a.next a.j).first = elim c.if-with_arrival-went.branch [
+    let first_is : c.if-with_arrival-went.first ≡ (near_two a.service.m a.service.costs.now a.next a.j).first = elim c.if-with_arrival-went.branch [
       | then-with_arrival-went w ↦
-          first_gone _ _ _ _ _ _ _ p.rows.few_facilities p.moved _ _ _ _ p.near_is p.arrived_is kept_is w.if-with_arrival-went.true w.first-is
+          first_gone _ _ _ _ _ _ _ a.service.rows.few_facilities p.moved _ _ _ _ p.near_is p.arrived_is kept_is w.if-with_arrival-went.true w.first-is
       | else-with_arrival-went w ↦
-          first_stays _ _ _ _ _ _ _ p.rows.few_facilities p.moved _ _ _ _ p.near_is p.arrived_is kept_is w.if-with_arrival-went.false w.first-is
+          first_stays _ _ _ _ _ _ _ a.service.rows.few_facilities p.moved _ _ _ _ p.near_is p.arrived_is kept_is w.if-with_arrival-went.false w.first-is
     ]
     in
-    (p.rows, p.client, p.next_small, p.list_is, p.count_is, first_is)
+    (p.client, p.next_small, p.listed, first_is)
 
 pub returns-then-goes_to : goal.returns-then-goes_to
 returns-then-goes_to c = let a = c.args in
     let p = c.requires in
     let kept_is = c.inserted-with_arrival.ensures in
-    let first_is : c.if-with_arrival-went.first ≡ (near_two a.m a.service.now a.next a.j).first = elim c.if-with_arrival-went.branch [
+    let first_is : c.if-with_arrival-went.first ≡ (near_two a.service.m a.service.costs.now a.next a.j).first = elim c.if-with_arrival-went.branch [
       | then-with_arrival-went w ↦
-          first_gone _ _ _ _ _ _ _ p.rows.few_facilities p.moved _ _ _ _ p.near_is p.arrived_is kept_is w.if-with_arrival-went.true w.first-is
+          first_gone _ _ _ _ _ _ _ a.service.rows.few_facilities p.moved _ _ _ _ p.near_is p.arrived_is kept_is w.if-with_arrival-went.true w.first-is
       | else-with_arrival-went w ↦
-          first_stays _ _ _ _ _ _ _ p.rows.few_facilities p.moved _ _ _ _ p.near_is p.arrived_is kept_is w.if-with_arrival-went.false w.first-is
+          first_stays _ _ _ _ _ _ _ a.service.rows.few_facilities p.moved _ _ _ _ p.near_is p.arrived_is kept_is w.if-with_arrival-went.false w.first-is
     ]
     in
     rw (first_is, c.second_of.ensures)
@@ -35,5 +35,5 @@ returns-then-goes_to c = let a = c.args in
 pub returns : goal.returns
 returns c = let a = c.args in
     let p = c.requires in
-    near_with a.m a.service.now a.set a.next _ _ a.j p.rows.few_facilities p.moved
+    near_with a.service.m a.service.costs.now a.set a.next _ _ a.j a.service.rows.few_facilities p.moved
     a.near _ _ p.near_is p.arrived_is c.inserted-with_arrival.ensures (sym c.goes_to.ensures ∙ c.if-goes_to.false)

@@ -7,26 +7,26 @@ use Rattle.engine.proofs.NearLaws.{entry_within_lem, entry_early}
 use Rattle.engine.proofs.near.packed_at.Goals as goal
 
 pub overflow_mul-result : goal.overflow_mul-result
-overflow_mul-result c = omega (arith, entry_early _ _ _ c.requires.0 _ _ c.requires.1 c.requires.2)
+overflow_mul-result c = omega (arith, entry_early _ _ _ c.args.service.rows _ _ c.requires.0 c.requires.1)
 
 pub overflow_add-result : goal.overflow_add-result
-overflow_add-result c = omega (arith, entry_early _ _ _ c.requires.0 _ _ c.requires.1 c.requires.2)
+overflow_add-result c = omega (arith, entry_early _ _ _ c.args.service.rows _ _ c.requires.0 c.requires.1)
 
 pub offset_bounds-service-j : goal.offset_bounds-service-j
-offset_bounds-service-j c = omega (arith, entry_early _ _ _ c.requires.0 _ _ c.requires.1 c.requires.2)
+offset_bounds-service-j c = omega (arith, entry_early _ _ _ c.args.service.rows _ _ c.requires.0 c.requires.1)
 
 pub bounds-service-j : goal.bounds-service-j
-bounds-service-j c = let p = c.requires in entry_within_lem _ _ _ p.0 _ _ p.1 p.2
+bounds-service-j c = let p = c.requires in entry_within_lem _ _ _ c.args.service.rows _ _ p.0 p.1
 
 pub overflow_cast-result : goal.overflow_cast-result
-overflow_cast-result c = let a = c.args in omega (arith, c.requires.0.within (a.j * a.m + a.i))
+overflow_cast-result c = let a = c.args in omega (arith, c.args.service.rows.within (a.j * a.service.m + a.i))
 
 pub overflow_mul-result-2 : goal.overflow_mul-result-2
-overflow_mul-result-2 c = let a = c.args in omega (arith, c.requires.0.within (a.j * a.m + a.i))
+overflow_mul-result-2 c = let a = c.args in omega (arith, c.args.service.rows.within (a.j * a.service.m + a.i))
 
 pub overflow_add-result-2 : goal.overflow_add-result-2
 overflow_add-result-2 c = let a = c.args in
-    omega (arith, c.requires.0.within (a.j * a.m + a.i), c.requires.0.few_facilities, c.requires.2)
+    omega (arith, c.args.service.rows.within (a.j * a.service.m + a.i), c.args.service.rows.few_facilities, c.requires.1)
 
 pub returns : goal.returns
 unfolding packed

@@ -5,27 +5,15 @@ use Rattle.floor.proofs.OfferedLaws.{not_covered, is_covered}
 use Rattle.floor.proofs.offered.fees_cover.Goals as goal
 
 pub loop-yard-init : goal.loop-yard-init
-loop-yard-init c = (omega arith, all_none _)
-
-pub offset_bounds-excess-yard : goal.offset_bounds-excess-yard
-offset_bounds-excess-yard c = omega arith
-
-pub bounds-excess-yard : goal.bounds-excess-yard
-bounds-excess-yard c = omega arith
+loop-yard-init c = all_none _
 
 pub returns-then-fee-excess : goal.returns-then-fee-excess
 returns-then-fee-excess c = sym (all_stops _ _ c.loop-yard.yard (omega arith) (not_covered _ _ _ _ (omega arith) c.at-fee.ensures c.if-fee-excess.true))
 
-pub overflow_add-yard : goal.overflow_add-yard
-overflow_add-yard c = omega arith
-
-pub loop-yard-smaller : goal.loop-yard-smaller
-loop-yard-smaller c = omega arith
-
 pub loop-yard-preserved : goal.loop-yard-preserved
-loop-yard-preserved c = (omega arith, all_more _ _ c.loop-yard.invariant.1 (is_covered _ _ _ _ (omega arith) c.at-fee.ensures c.if-fee-excess.false))
+loop-yard-preserved c = all_more _ _ c.loop-yard.invariant (is_covered _ _ _ _ (omega arith) c.at-fee.ensures c.if-fee-excess.false)
 
 pub returns : goal.returns
 returns c = let l = c.loop-yard in
     let e : l.yard ≡ c.args.m = omega arith in
-    rw e at l.invariant.1
+    rw e at l.invariant

@@ -22,6 +22,3 @@ pair_keeps-requires c = let r = c.requires.0 in (
   costs_below_lem _ _ _ _ r c.args.a (omega arith),
   costs_below_lem _ _ _ _ r c.args.b (omega arith),
 )
-
-pub returns : goal.returns
-returns c = c.pair_keeps.ensures

@@ -27,9 +27,12 @@ returns-then-sheet-yards c = record {
   area = rw (writes_short _ _ _ _ _ _ _ (said_yes c.plan_fits.ensures c.if-not-plan_fits.false) c.if-sheet-yards.true) (sym (splice_none _ _));
 }
 
+pub invariant_of-counted : goal.invariant_of-counted
+invariant_of-counted c = let fits = said_yes c.plan_fits.ensures c.if-not-plan_fits.false in
+    record { shape = fits_shape _ _ _ _ fits c.if-sheet-yards.false }
+
 pub put_yards_and_farms-totals-requires : goal.put_yards_and_farms-totals-requires
-put_yards_and_farms-totals-requires c = let fits = said_yes c.plan_fits.ensures c.if-not-plan_fits.false in
-    (fits_shape _ _ _ _ fits c.if-sheet-yards.false, omega (arith, (fits_says _ _ _ fits).enough))
+put_yards_and_farms-totals-requires c = omega (arith, (fits_says _ _ _ (said_yes c.plan_fits.ensures c.if-not-plan_fits.false)).enough)
 
 pub put_total_and_moves-requires : goal.put_total_and_moves-requires
 put_total_and_moves-requires c = let fits = said_yes c.plan_fits.ensures c.if-not-plan_fits.false in

@@ -10,4 +10,4 @@ returns-then-bytes-i c = c.new.ensures ∙ sym (not_whole _ _ (omega arith))
 
 pub returns : goal.returns
 unfolding record_at
-returns c = c.new-2.ensures ∙ ap (record_of _ _ _ _) c.word32-amount.ensures ∙ sym (whole _ _ (omega arith))
+returns c = c.new-2.ensures ∙ ap (record_of _ _ _ _) (omega (arith, c.from_le_bytes-amount.ensures)) ∙ sym (whole _ _ (omega arith))

@@ -2,15 +2,10 @@
 -- the table.
 use mathlib.Core.Path.{◌≡◌}
 use mathlib.Core.Bool.{true}
-use Prim.Native.Nat.{◌≤◌, ◌-◌}
-use lib.ListN.{length}
 use Rattle.model.specs.Loops.{all_below}
 use Rattle.sheet.specs.Hauls.{Filled}
 use Rattle.sheet.specs.OnePass.{good_haul}
 use Rattle.sheet.proofs.one_pass.good_farm.Given as goal
 
 abbrev pub invariant-loop-a : goal.invariant-loop-a
-invariant-loop-a l = (l.a ≤ l.m) × (length l.table ≡ length l.initial.table) × (true ≡ all_below l.a (good_haul l.sheet l.m l.p)) × Filled l.sheet l.m l.p l.a l.table
-
-abbrev pub decreases-loop-a : goal.decreases-loop-a
-decreases-loop-a l = l.m - l.a
+invariant-loop-a l = (true ≡ all_below l.a (good_haul l.sheet l.m l.p)) × Filled l.sheet l.m l.p l.a l.table

@@ -10,43 +10,28 @@ use Rattle.sheet.proofs.one_pass.OnePassLaws.{yard_tested, yards_good, yards_man
 use Rattle.sheet.proofs.one_pass.good_yards.Goals as goal
 
 pub loop-i-init : goal.loop-i-init
-loop-i-init c = (omega arith, omega arith, leading_none _, all_none _)
-
-pub record_within-record-requires : goal.record_within-record-requires
-record_within-record-requires c = omega arith
+loop-i-init c = (omega arith, leading_none _, all_none _)
 
 pub returns-then-i-ge-MOST_YARDS : goal.returns-then-i-ge-MOST_YARDS
 returns-then-i-ge-MOST_YARDS c = let yard = sym (yard_read _ _ _ c.record_within-record.ensures) ∙ eq-eqb _ _ c.if-record-ne-KIND_YARD.false in
-    yards_many _ _ (leading_more _ c.loop-i.i c.loop-i.invariant.2 yard) (omega arith) (omega arith)
-
-pub overflow_cast-i : goal.overflow_cast-i
-overflow_cast-i c = omega arith
-
-pub record_is-requires : goal.record_is-requires
-record_is-requires c = omega arith
+    yards_many _ _ (leading_more _ c.loop-i.i c.loop-i.invariant.1 yard) (omega arith) (omega arith)
 
 pub returns-then-not-record_is : goal.returns-then-not-record_is
 returns-then-not-record_is c = let yard = sym (yard_read _ _ _ c.record_within-record.ensures) ∙ eq-eqb _ _ c.if-record-ne-KIND_YARD.false in
     let bad = said_no (c.record_is.ensures ∙ yard_tested _ _ _ c.record_within-record.ensures) c.if-not-record_is.true in
-    yards_bad _ _ (leading_more _ c.loop-i.i c.loop-i.invariant.2 yard) (omega arith) bad
-
-pub overflow_add-i : goal.overflow_add-i
-overflow_add-i c = omega arith
-
-pub loop-i-smaller : goal.loop-i-smaller
-loop-i-smaller c = omega arith
+    yards_bad _ _ (leading_more _ c.loop-i.i c.loop-i.invariant.1 yard) (omega arith) bad
 
 pub loop-i-preserved : goal.loop-i-preserved
 loop-i-preserved c = let yard = sym (yard_read _ _ _ c.record_within-record.ensures) ∙ eq-eqb _ _ c.if-record-ne-KIND_YARD.false in
     let good = said_yes (c.record_is.ensures ∙ yard_tested _ _ _ c.record_within-record.ensures) c.if-not-record_is.false in
-    (omega arith, omega arith, leading_more _ _ c.loop-i.invariant.2 yard, all_more _ _ c.loop-i.invariant.3 good)
+    (omega arith, leading_more _ _ c.loop-i.invariant.1 yard, all_more _ _ c.loop-i.invariant.2 good)
 
-pub returns-after-loop-i : goal.returns-after-loop-i
+pub returns : goal.returns
 unfolding yards
-returns-after-loop-i c = let e : c.loop-i.i ≡ records c.args.sheet.now = omega arith in
-    yards_good _ _ (rw (← e) c.loop-i.invariant.2) c.loop-i.invariant.1 c.loop-i.invariant.3
+returns c = let e : c.loop-i.i ≡ records c.args.sheet.now = omega arith in
+    rw (← e) (yards_good _ _ (rw (← e) c.loop-i.invariant.1) c.loop-i.invariant.0 c.loop-i.invariant.2)
 
 pub returns-then-record-ne-KIND_YARD : goal.returns-then-record-ne-KIND_YARD
 unfolding yards
 returns-then-record-ne-KIND_YARD c = let other = sym (yard_read _ _ _ c.record_within-record.ensures) ∙ ne_eqb _ _ c.if-record-ne-KIND_YARD.true in
-    yards_good _ _ (leading_stops _ _ c.loop-i.i c.loop-i.invariant.2 (omega arith) other) c.loop-i.invariant.1 c.loop-i.invariant.3
+    yards_good _ _ (leading_stops _ _ c.loop-i.i c.loop-i.invariant.1 (omega arith) other) c.loop-i.invariant.0 c.loop-i.invariant.2

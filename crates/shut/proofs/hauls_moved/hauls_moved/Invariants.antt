@@ -1,10 +1,6 @@
 -- `hauls_moved` meets its contract. The invariant: both sums over the farms so far.
-use Prim.Native.Nat.{◌-◌, ◌≤◌}
 use Rattle.shut.proofs.MovedLaws.{Moved}
 use Rattle.shut.proofs.hauls_moved.hauls_moved.Given as goal
 
 abbrev pub invariant-loop-farm : goal.invariant-loop-farm
-invariant-loop-farm l = (l.farm ≤ l.n) × Moved l.sheet l.m l.n l.set l.yard l.there l.elsewhere l.farm
-
-abbrev pub decreases-loop-farm : goal.decreases-loop-farm
-decreases-loop-farm l = l.n - l.farm
+invariant-loop-farm l = Moved l.sheet l.m l.n l.set l.yard l.there l.elsewhere l.farm

@@ -14,4 +14,4 @@ pub tariff_of-requires : goal.tariff_of-requires
 tariff_of-requires c = (said_yes c.bands_good.ensures c.if-not-bands_good.false, said_yes c.rates_good.ensures c.if-not-rates_good.false)
 
 pub returns : goal.returns
-returns c = rw (accepts_tariff _ (said_yes c.bands_good.ensures c.if-not-bands_good.false) (said_yes c.rates_good.ensures c.if-not-rates_good.false)) (refl, c.tariff_of.ensures)
+returns c = rw (accepts_tariff _ (said_yes c.bands_good.ensures c.if-not-bands_good.false) (said_yes c.rates_good.ensures c.if-not-rates_good.false)) c.tariff_of.ensures

@@ -1,6 +1,5 @@
 -- `reading::tariff_of` meets its contract. The invariant: the tariff is made of the bands passed, and the cost is theirs.
 use mathlib.Core.Path.{◌≡◌}
-use Prim.Native.Nat.{◌-◌, ◌≤◌}
 use Rattle.tariff.specs.Bands.{cost_before}
 use Rattle.tariff.specs.Questions.{band_at}
 use Rattle.tariff.specs.Reading.{bands_of}
@@ -8,7 +7,4 @@ use Rattle.tariff.proofs.MakingLaws.{Made}
 use Rattle.tariff.proofs.reading.tariff_of.Given as goal
 
 abbrev pub invariant-loop-i : goal.invariant-loop-i
-invariant-loop-i l = (l.i ≤ l.n) × Made (bands_of l.bytes) l.i l.tariff × (l.cost ≡ cost_before (band_at l.bytes) l.i)
-
-abbrev pub decreases-loop-i : goal.decreases-loop-i
-decreases-loop-i l = l.n - l.i
+invariant-loop-i l = Made (bands_of l.bytes) l.i l.tariff × (l.cost ≡ cost_before (band_at l.bytes) l.i)
