@@ -53,6 +53,14 @@ module _ (choice : TariffChoice) (tariff s : List ℕ) (room : ℕ) where
   unfolding hauls_within
   short_room short = ap (λ b. ask b 0 (sheet_by choice tariff s)) (lt-leb most_bytes room short)
 
+-- the part of the bytes lent that a priced sheet is: it lies within them, of which there are `size`, and is as long as told
+module _ (room size : ℕ) (long : size ≡ room) (bytes : ℕ) (r : Result HaulSheet Refusal) (e : r ≡ Ok (Priced bytes)) (fits : FitsIn room r) where
+  pub part_within : bytes ≤ size
+  part_within = omega (arith, subst (FitsIn room) e fits)
+
+  pub part_length : (lent : List ℕ) → length lent ≡ size → bytes ≡ length (take bytes lent)
+  part_length lent all = sym (length-take-le bytes lent (omega (arith, part_within)))
+
 -- of the sheet that the answer r tells, in bytes lent that hold every sheet
 module _ (choice : TariffChoice) (tariff s : List ℕ) (room : ℕ) (enough : most_bytes ≤ room) (r : Result HaulSheet Refusal) (lent : List ℕ)
     (told : sheet_told r s lent ≡ hauls_within room choice tariff s) where

@@ -7,8 +7,7 @@ ghost use Rattle.tariff.specs.Pricing.{price_of};
 ghost use Rattle.distances.specs.Priced.{priced_record, priced_sheet};
 ghost use Rattle.distances.specs.Blocks.{distance_of, within_reach, NearRecords};
 
-use questions::KIND_HAUL;
-use record::Record;
+use record::{Kind, Record};
 use tariff::{BLOCK, Tariff};
 
 // The bytes of the longest block.
@@ -39,13 +38,14 @@ fn record_within(bytes: &[u8], i: usize) -> Record
 }
 
 // The distance that a haul record holds; 0 for any other.
-// Stays 0 and a match on the byte: every place of a block has a distance, and a `Record` has its kind as a byte.
+// Stays 0 and no option: every place of a block has a distance.
 fn distance_of(held: Record) -> u32
     ensures { result ≡ distance_of held }
 {
-    match held.kind {
-        KIND_HAUL => held.amount,
-        _ => 0,
+    if held.kind == Kind::Haul as u8 {
+        held.amount
+    } else {
+        0
     }
 }
 
@@ -70,10 +70,8 @@ fn distances_of(part: &[u8], reach: u16) -> Option<[u16; BLOCK]>
 fn priced_record(held: Record, haul: u32) -> Record
     ensures { result ≡ priced_record (λ d. haul) held }
 {
-    let amount = match held.kind {
-        KIND_HAUL => haul,
-        _ => held.amount,
-    };
+    let is_haul = held.kind == Kind::Haul as u8;
+    let amount = if is_haul { haul } else { held.amount };
     Record { amount, ..held }
 }
 

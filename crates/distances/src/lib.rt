@@ -44,6 +44,7 @@ pub fn hauls_by(
     if hauls.len() < MOST_BYTES {
         return Err(Refusal::Room);
     }
+    // Stays a match on the choice: each arm prices by another tariff or by none, and the contract says what comes of each.
     match choice {
         TariffChoice::NoTariff => Ok(HaulSheet::AsWritten),
         TariffChoice::HouseTariff => price_into(sheet, tariff::house_tariff(), hauls),

@@ -9,7 +9,15 @@ use Rattle.engine.specs.declared.Neighbourhood.{Neighbourhood}
 use Rattle.engine.specs.declared.Start.{Start}
 use Rattle.engine.specs.declared.Start.TheVariants.{Cheapest, Set}
 use Rattle.engine.specs.declared.Found.{Found}
+use Rattle.engine.specs.declared.service.Tables.{Tables}
 use Rattle.engine.specs.declared.Found.TheVariants.{Stopped, Settled}
+
+-- what a set costs by the tables of a search, and their instance
+abbrev pub cost_by : Tables → ℕ → ℕ
+cost_by t = table_cost t.service.m t.service.n t.opening.now t.service.costs.now
+
+abbrev pub instance_of : Tables → Instance
+instance_of t = tabled t.service.m t.service.n t.opening.now t.service.costs.now
 
 -- a set to begin at is one of facilities that has one
 unfoldable pub good_start : ℕ → Start → Bool

@@ -36,6 +36,7 @@ pub(crate) fn begin(service: Service, set: u32, kept: &mut [u64])
 }
 
 // Client j after a move. Most clients keep both.
+// The sets, `came` and `went` go one by one: in one struct, which goes by value, open plans took 2 to 3 in a hundred longer.
 fn move_client(
     service: Service,
     j: usize,

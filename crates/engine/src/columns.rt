@@ -24,11 +24,7 @@ fn columns(m: usize) -> usize
     requires { m ≤ most_facilities }
     ensures { result ≡ most_facilities }
 {
-    if m < MOST_FACILITIES {
-        MOST_FACILITIES
-    } else {
-        m
-    }
+    m.max(MOST_FACILITIES)
 }
 
 // The sums of all rows: what each facility alone costs.

@@ -27,7 +27,7 @@ ghost use Rattle.engine.specs.SearchOnTables.{good_start, start_set, found, sear
 
 pub use bounds::NO_LIMIT;
 use bounds::{ADDED, KEPT, NO_FACILITY, NO_OPENING, SERVICE};
-use service::Service;
+use service::{Service, Tables};
 use tables::MOST_FACILITIES;
 
 // Which moves a search makes.
@@ -79,6 +79,7 @@ fn start_good(m: usize, start: Start) -> bool
     requires { m ≤ most_facilities }
     ensures { result ≡ good_start m start }
 {
+    // Stays a match: it asks one question of one kind of start.
     match start {
         Start::Cheapest => true,
         Start::Set(set) => 1 <= set && (set as u64) < (1u64 << (m as u64)),
@@ -120,7 +121,10 @@ fn search_on(
     let mut rows = [0u32; SERVICE];
     let mut kept = [0u64; KEPT];
     prepare(opening, service, m, n, &mut openings, &mut rows, &mut kept);
-    let rows = Service { costs: &rows, m, n };
-    let first = descent::first_set(start, &openings, rows, &kept);
-    descent::descend(moves, first, limit, &openings, rows, &mut kept)
+    let tables = Tables {
+        opening: &openings,
+        service: Service { costs: &rows, m, n },
+    };
+    let first = descent::first_set(start, tables, &kept);
+    descent::descend(moves, first, limit, tables, &mut kept)
 }

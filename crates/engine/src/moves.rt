@@ -21,6 +21,7 @@ pub struct Priced {
 }
 
 // The cheaper of x, at its cost, and b; b among equals.
+// Stays a comparison by hand: by the library's order of costs and sets the lower set would come first among equals, and not the earlier one.
 pub(crate) fn better_of(x: u32, cost: u64, b: Priced) -> Priced
     ensures { result ≡ cheaper x cost b }
 {
@@ -32,7 +33,7 @@ pub(crate) fn better_of(x: u32, cost: u64, b: Priced) -> Priced
 }
 
 // Facility i added to the set `from` at this cost, where it is not in `set`. Few prices are below the best so far, so that is asked
-// before whether it is in the set.
+// before whether it is in the set. Stays apart from `better_of`, for which the set with the facility would be made at every price.
 fn try_add(set: u32, from: u32, i: usize, cost: u64, b: Priced) -> Priced
     ensures { result ≡ try_add set from i cost b }
 {
@@ -158,6 +159,7 @@ pub(crate) fn best_move(
     requires { ListedWithin opening.now list.now b.cost × Losses kept.now × (b.cost ≤ most_cost) × (m ≤ length costs.now) × SwapRows opening.now m costs.now kept.now list.now }
     ensures { result ≡ best_move neighbourhood opening.now m costs.now kept.now list.now b }
 {
+    // Stays a match, and no closure that is handed in: the contract says what comes of each, so that a closure's would have to say as much.
     match neighbourhood {
         Neighbourhood::AddDropSwap => {
             let added = best_add(m, b.set, b, costs);

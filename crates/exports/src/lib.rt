@@ -22,7 +22,8 @@ ghost use Rattle.by_tariff.specs.PlanningBy.{open_planning_by, limited_planning_
 ghost use Rattle.search.specs.Promises.{NoOpenMove, BoundedByRivals, OfSize, NoLimitedMove, BoundedByRivalsOf};
 ghost use Rattle.refusal.specs.Numbers.{number_of};
 ghost use Rattle.shut.specs.Shutting.{second_answer};
-ghost use Rattle.numbers.specs.Numbers.{second_by, counts_number, result_number, second_number, change_number, sum_number, choice_of, OfWritten, DifferenceTold, UnderAllTold};
+ghost use Rattle.tariff.specs.Choices.{choice_of};
+ghost use Rattle.numbers.specs.Numbers.{second_by, counts_number, result_number, second_number, change_number, sum_number, OfWritten, DifferenceTold, UnderAllTold};
 
 use nearest::Nearest;
 use numbers::SecondYard;

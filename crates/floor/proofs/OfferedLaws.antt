@@ -18,9 +18,8 @@ use Rattle.record.specs.Records.{record_at, whole_record_at, amount_at}
 use Rattle.record.proofs.RecordLaws.{whole, part_amount}
 use Rattle.questions.specs.Sheet.{fee, haul, farm_byte, loads_of, instance_by}
 use Rattle.questions.specs.Shape.{Shape}
-use Rattle.questions.proofs.AmountLaws.{fee_read}
 use Rattle.stretch.specs.Stretch.{stretch}
-use Rattle.stretch.proofs.FarmLaws.{stretch_length, stretch_record, byte_on}
+use Rattle.stretch.proofs.FarmLaws.{stretch_length, stretch_record}
 use Rattle.floor.specs.Offered.{offer_to, farm_offer, SumOf, Offered, covered_at}
 
 -- ---- what one farm offers, with what the calls answer of its stretch and of its offer
@@ -29,10 +28,10 @@ pub hauls_long : (s : List ℕ) (m n p : ℕ) → Shape s m n → p < n → (hau
 hauls_long s m n p shape below hauls part = ap length part ∙ stretch_length s m n p shape below
 
 module _ (s : List ℕ) (m n p : ℕ) (offers : List ℕ) (shape : Shape s m n) (room : 8 * n ≤ length offers) (below : p < n)
-    (hauls : List ℕ) (part : hauls ≡ stretch s m p) (first : Record) (read_first : first ≡ whole_record_at hauls 0)
-    (loads : ℕ) (told : loads ≡ loads_of first.byte3) (offer : Record) (read_offer : offer ≡ whole_record_at offers p) where
+    (hauls : List ℕ) (part : hauls ≡ stretch s m p) (byte : ℕ) (read_byte : byte ≡ farm_byte s m p)
+    (loads : ℕ) (told : loads ≡ loads_of byte) (offer : Record) (read_offer : offer ≡ whole_record_at offers p) where
   loads_are : loads ≡ loads_of (farm_byte s m p)
-  loads_are = told ∙ ap loads_of (byte_on s m n p shape below hauls first part read_first)
+  loads_are = told ∙ ap loads_of read_byte
 
   amount_is : offer.amount ≡ amount_at offers p
   unfolding amount_at
@@ -67,14 +66,14 @@ offer_more s m p offers a x excess below room e small h =
 
 -- ---- a yard's fee beside its sum
 
-module _ (s excess : List ℕ) (i : ℕ) (r : Record) (room : 8 * i + 8 ≤ length s) (read : r ≡ whole_record_at s i) where
-  pub not_covered : r.amount < get_or excess i 0 → covered_at s excess i ≡ false
+module _ (s excess : List ℕ) (i amount : ℕ) (read : amount ≡ fee s i) where
+  pub not_covered : amount < get_or excess i 0 → covered_at s excess i ≡ false
   unfolding covered_at
-  not_covered more = lt-leb (get_or excess i 0) (fee s i) (omega (arith, fee_read s i room r read))
+  not_covered more = lt-leb (get_or excess i 0) (fee s i) (omega arith)
 
-  pub is_covered : get_or excess i 0 ≤ r.amount → covered_at s excess i ≡ true
+  pub is_covered : get_or excess i 0 ≤ amount → covered_at s excess i ≡ true
   unfolding covered_at
-  is_covered few = le-leb (get_or excess i 0) (fee s i) (omega (arith, fee_read s i room r read))
+  is_covered few = le-leb (get_or excess i 0) (fee s i) (omega arith)
 
 -- ---- before the first farm, and behind the last
 

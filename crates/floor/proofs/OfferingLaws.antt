@@ -17,7 +17,7 @@ use Rattle.record.specs.Records.{record_at, amount_at}
 use Rattle.questions.specs.Sheet.{instance_by, instance_of}
 use Rattle.questions.specs.Reading.{counts, reading}
 use Rattle.questions.proofs.AcceptedLaws.{instance_is, accepts, facilities_are}
-use Rattle.std.specs.Prelude.{Result, Ok}
+use Rattle.std.specs.Prelude.{Result}
 use Rattle.refusal.specs.declared.Refusal.{Refusal}
 use Rattle.refusal.specs.Numbers.{answer_of}
 use Rattle.floor.specs.Offering.{is_offer, offer_in_place, question15, question16, offering, UnderAll}

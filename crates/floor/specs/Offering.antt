@@ -4,7 +4,7 @@ use Rattle.model.specs.Loops.{all_below}
 use Rattle.model.specs.Least.{any}
 use Rattle.model.specs.Instance.{total_cost}
 use Rattle.model.specs.Floor.{feasible, floor}
-use Rattle.model.specs.Answers.{Answer, accepted, refused, ask, after}
+use Rattle.model.specs.Answers.{Answer, accepted, ask, after}
 use Rattle.record.specs.declared.Record.{Record}
 use Rattle.record.specs.Records.{records, record_of, record_at, amount_at}
 use Rattle.questions.specs.Bounds.{yard_kind}

@@ -10,13 +10,12 @@ ghost use Rattle.floor.specs.Offering.{is_offer, question15, offering, UnderAll}
 
 use offered::{add_offers, fees_cover};
 use questions::MOST_YARDS;
-use record::Record;
+use record::{Kind, Record};
 use refusal::Refusal;
 use sheet::Counts;
+use stretch::CountedSheet;
 
 mod offered;
-
-pub const KIND_OFFER: u8 = 0x56;
 
 // The sum of loads times the amounts offered, in cents, where no yard is offered more than its fee: no set of yards costs less.
 pub fn floor(sheet: &[u8], offers: &[u8]) -> Result<u64, Refusal>
@@ -27,9 +26,14 @@ pub fn floor(sheet: &[u8], offers: &[u8]) -> Result<u64, Refusal>
     if !offers_good(offers, farms) {
         return Err(Refusal::Offers);
     }
+    let counted = CountedSheet {
+        bytes: sheet,
+        yards,
+        farms,
+    };
     let mut excess = [0u64; MOST_YARDS];
-    let sum = add_offers(sheet, offers, yards, farms, &mut excess);
-    if !fees_cover(sheet, yards, &excess) {
+    let sum = add_offers(counted, offers, &mut excess);
+    if !fees_cover(counted, &excess) {
         return Err(Refusal::Excess);
     }
     Ok(sum)
@@ -56,6 +60,6 @@ fn offers_good(offers: &[u8], n: usize) -> bool
 fn is_offer(record: Record, farm: usize) -> bool
     ensures { result ≡ is_offer farm «record» }
 {
-    record.kind == KIND_OFFER
+    record.kind == Kind::Offer as u8
         && (record.yard == 0 && (record.farm as usize == farm && record.byte3 == 0))
 }

@@ -1,3 +1,4 @@
+pub mod SignedLaws
 pub mod TableLaws
 pub mod PassLaws
 pub mod RoundedLaws

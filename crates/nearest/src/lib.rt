@@ -43,9 +43,7 @@ pub fn nearest_yard(fees: &[u8], hauls: &[u8], set: u32) -> Option<Nearest>
     ensures { told result ≡ nearest_on fees.now hauls.now set }
 {
     let open = sets::members_of(set);
-    let list = open.list;
-    let count = open.count;
-    nearest_listed(fees, hauls, &list[..count])
+    nearest_listed(fees, hauls, open.yards())
 }
 
 // The second nearest, in the same order.

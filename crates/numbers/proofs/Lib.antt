@@ -1,3 +1,2 @@
--- SaidLaws: what a number says is what the call answered. SizeLaws: the size of a signed number.
+-- SaidLaws: what a number says is what the call answered.
 pub mod SaidLaws
-pub mod SizeLaws

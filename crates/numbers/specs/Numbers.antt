@@ -7,8 +7,6 @@ use Rattle.model.specs.Instance.{total_cost}
 use Rattle.model.specs.Answers.{Answer, accepted, refused}
 use Rattle.questions.specs.Sheet.{yards, instance_of}
 use Rattle.questions.specs.declared.Counts.{Counts}
-use Rattle.tariff.specs.declared.TariffChoice.{TariffChoice}
-use Rattle.tariff.specs.declared.TariffChoice.TheVariants.{NoTariff, HouseTariff, GivenTariff}
 use Rattle.nearest.specs.declared.Nearest as declared
 use Rattle.nearest.specs.Nearest.{Nearest, near}
 use Rattle.numbers.specs.declared.SecondYard.{SecondYard}
@@ -53,11 +51,6 @@ change_number (refused k) = k
 abbrev pub sum_number : Answer ℕ → ℕ
 sum_number (accepted sum) = sum % 2 ^ 56 * 2 ^ 8
 sum_number (refused k) = k
-
--- What a call by a tariff is told: 0, hauls as written; 1, distances by the house tariff; any other number, distances by the tariff that is
--- handed over.
-unfoldable pub choice_of : ℕ → TariffChoice
-choice_of hauls = cond (eqb hauls 0) NoTariff (cond (eqb hauls 1) HouseTariff GivenTariff)
 
 -- ---- what a caller reads off a number
 

@@ -5,10 +5,11 @@
 
 #![tactic(auto)]
 
-ghost use Rattle.std.specs.Prelude.{◌≡◌, ◌^◌, ◌≤◌, nat_abs};
+ghost use Rattle.std.specs.Prelude.{◌≡◌, ◌^◌, ◌≤◌};
 ghost use Rattle.model.specs.Loops.{on};
 ghost use Rattle.refusal.specs.Numbers.{answer_by};
-ghost use Rattle.numbers.specs.Numbers.{choice_of, parts_of, second_by, counts_number, result_number, second_number, change_number, sum_number};
+ghost use Rattle.tariff.specs.Choices.{choice_of};
+ghost use Rattle.numbers.specs.Numbers.{parts_of, second_by, counts_number, result_number, second_number, change_number, sum_number};
 
 use nearest::Nearest;
 use price::Written;
@@ -62,12 +63,10 @@ impl From<Option<Nearest>> for SecondYard {
 pub fn choice_of(hauls: u8) -> TariffChoice
     ensures { result ≡ choice_of hauls }
 {
-    match hauls {
-        0 => TariffChoice::NoTariff,
-        1 => TariffChoice::HouseTariff,
-        _ => TariffChoice::GivenTariff,
-    }
+    TariffChoice::from(hauls)
 }
+
+// The functions below stay functions: they are public, and a `From` of the library's `Result` could stand in no crate here.
 
 // What reading answers. Bits 8 to 15: the yards; bits 16 to 23: the farms.
 pub fn counts_number<E: Numbered>(reading: Result<Counts, E>) -> u64
@@ -110,7 +109,7 @@ pub fn change_number<E: Numbered>(change: Result<i64, E>) -> u64
     ensures { result ≡ change_number (answer_by E.number change) }
 {
     match change {
-        Ok(cents) => bit_8(cents < 0) + size(cents) % BIT_48 * BIT_16,
+        Ok(cents) => bit_8(cents < 0) + cents.unsigned_abs() % BIT_48 * BIT_16,
         Err(refusal) => refusal.number() as u64,
     }
 }
@@ -131,16 +130,4 @@ fn bit_8(holds: bool) -> u64
     ensures small { result ≤ 2 ^ 8 }
 {
     if holds { BIT_8 } else { 0 }
-}
-
-// How far a number is from zero.
-fn size(cents: i64) -> u64
-    ensures { result ≡ nat_abs cents }
-{
-    if cents < 0 {
-        // one more than the lowest number is the lowest that has its opposite
-        (0 - (cents + 1)) as u64 + 1
-    } else {
-        cents as u64
-    }
 }

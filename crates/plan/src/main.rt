@@ -4,8 +4,7 @@
 
 ghost use Rattle.std.specs.Prelude.{◌≤◌, length};
 
-use plan_area::{KIND_FARM, KIND_MOVES, KIND_OPEN, KIND_TOTAL};
-use record::Record;
+use record::{Kind, Record};
 use refusal::{Numbered, Refusal};
 use sheet::{MOST_BYTES, MOST_FARMS, MOST_YARDS};
 use std::io::Read;
@@ -17,14 +16,14 @@ const INPUT: usize = MOST_BYTES + 1;
 const AREA: usize = Record::LEN * (MOST_YARDS + MOST_FARMS + 2);
 
 // A yard with its fee; a farm, its yard, its haul; the total; the moves. A plan has no other kind.
+// Stays a function: `Display` belongs to the library and `Record` to another crate, and a type round it would be longer than its one use.
 fn print_record(rt: &impl Print, held: Record) -> bool {
-    let kind = held.kind;
     let amount = held.amount;
-    let printed = match kind {
-        KIND_OPEN => println!(rt; "open {} {amount}", held.yard),
-        KIND_FARM => println!(rt; "farm {} {} {amount}", held.farm, held.yard),
-        KIND_TOTAL => println!(rt; "total {amount}"),
-        KIND_MOVES => println!(rt; "moves {amount}"),
+    let printed = match Kind::try_from(held.kind) {
+        Ok(Kind::Open) => println!(rt; "open {} {amount}", held.yard),
+        Ok(Kind::Farm) => println!(rt; "farm {} {} {amount}", held.farm, held.yard),
+        Ok(Kind::Total) => println!(rt; "total {amount}"),
+        Ok(Kind::Moves) => println!(rt; "moves {amount}"),
         _ => return false,
     };
     printed.is_ok()
@@ -57,6 +56,7 @@ fn read_full(from: &mut impl Read, input: &mut [u8]) -> usize
     ensures { result ≤ length input.new }
 {
     let mut done = 0;
+    // Stays a loop by hand: the library's `read_exact` does not tell how many bytes came.
     while done < input.len() {
         let came = from.read(&mut input[done..]).unwrap_or(0);
         if came == 0 {

@@ -1,3 +1,2 @@
--- Plan: the records of a plan. CountedSheet: what a sheet holds, for private functions.
+-- Plan: the records of a plan.
 pub mod Plan
-pub mod CountedSheet

@@ -4,8 +4,7 @@
 
 #![tactic(auto)]
 
-mod counted_sheet;
 mod open_yards;
 mod plan;
 
-pub use plan::{KIND_FARM, KIND_MOVES, KIND_OPEN, KIND_TOTAL, Total, plan_fits, write_plan};
+pub use plan::{Total, plan_fits, write_plan};

@@ -2,7 +2,7 @@
 ghost use Rattle.std.specs.Prelude.{◌≡◌};
 ghost use Rattle.sets.specs.Members.{rising_below};
 
-use crate::counted_sheet::CountedSheet;
+use stretch::CountedSheet;
 
 // The yards of the set that the sheet has, by number.
 #[derive(Clone, Copy)]

@@ -6,22 +6,14 @@ ghost use Rattle.model.specs.Instance.{nearest, opening_cost, service_cost, tota
 ghost use Rattle.record.specs.Records.{record_of, bytes_of, splice};
 ghost use Rattle.questions.specs.Bounds.{most_yards, most_farms};
 ghost use Rattle.questions.specs.Sheet.{fee, farm_byte, loads_of, instance_by};
-ghost use Rattle.plan_area.specs.CountedSheet.{instance_on, loads_on};
+ghost use Rattle.stretch.specs.CountedSheet.{instance_on, loads_on};
 ghost use Rattle.plan_area.specs.Plan.{total_kind, open_record, farm_record, moves_record, total_amount, plan_fits, writing};
 
-use crate::counted_sheet::CountedSheet;
 use crate::open_yards::OpenYards;
 use nearest::NOWHERE;
 use questions::{MOST_FARMS, MOST_YARDS};
-use record::Record;
-
-pub const KIND_OPEN: u8 = 0x4F;
-
-pub const KIND_FARM: u8 = 0x41;
-
-pub const KIND_TOTAL: u8 = 0x54;
-
-pub const KIND_MOVES: u8 = 0x4D;
+use record::{Kind, Record};
+use stretch::CountedSheet;
 
 const AMOUNT_END: u64 = 4294967296;
 
@@ -85,6 +77,7 @@ pub fn write_plan(
 fn amount_of(total: Total, cost: u64) -> u32
     ensures { result ≡ total_amount total cost }
 {
+    // Stays a match: it gives a value for each case, and runs nothing.
     match total {
         Total::FullCost => (cost % AMOUNT_END) as u32,
         Total::Given(amount) => amount,
@@ -119,7 +112,7 @@ fn put_open(sheet: CountedSheet, set: u32, yard: u8, area: &mut [u8], at: usize)
     ensures fee { result ≡ fee sheet.entry.bytes.now yard }
     ensures area { area.new ≡ splice area.old at (open_record (instance_on sheet.entry) set yard) }
 {
-    let record = Record::new(KIND_OPEN, yard, 0, 0, sheet.fee(yard as usize));
+    let record = Record::new(Kind::Open as u8, yard, 0, 0, sheet.fee(yard as usize));
     record.put(area, at);
     record.amount
 }
@@ -151,7 +144,13 @@ fn put_farm(open: OpenYards, farm: usize, area: &mut [u8], at: usize) -> u64
         NOWHERE,
     );
     let byte3 = sheet.loads_byte(farm);
-    let record = Record::new(KIND_FARM, near.yard as u8, farm as u8, byte3, near.haul);
+    let record = Record::new(
+        Kind::Farm as u8,
+        near.yard as u8,
+        farm as u8,
+        byte3,
+        near.haul,
+    );
     record.put(area, at);
     questions::loads_of(byte3) * (near.haul as u64)
 }
@@ -183,8 +182,8 @@ fn put_total_and_moves(
     ensures area { area.new ≡ splice area.old (8 * (open_yards + farms)) (bytes_of (record_of total_kind open_yards farms 0 total) ++ moves_record moves) }
 {
     let at = Record::LEN * (open_yards + farms);
-    let sum = Record::new(KIND_TOTAL, open_yards as u8, farms as u8, 0, total);
-    let made = Record::new(KIND_MOVES, 0, 0, 0, moves);
+    let sum = Record::new(Kind::Total as u8, open_yards as u8, farms as u8, 0, total);
+    let made = Record::new(Kind::Moves as u8, 0, 0, 0, moves);
     sum.put(area, at);
     made.put(area, at + Record::LEN);
     at + 2 * Record::LEN

@@ -96,6 +96,9 @@ module _ (kind : PlanKind) (I : Instance) (limit : ℕ) where
             → r ≡ record { stopped = false; set = set; steps = steps }
         outcome_is r e f g = rw (sym e, sym f, sym g) refl
 
+    pub not_stopped : m ≤ most_yards → no_limit ≤ limit → (outcome_by kind start limit I).stopped ≡ false
+    not_stopped few high = ap (λ (r : Outcome). r.stopped) (outcome_unbroken few high)
+
 -- ---- going on without a limit, by the same search, from where it was cut
 
 module _ (kind : PlanKind) (I : Instance) (limit : ℕ) (start : PlanStart) (some : 1 ≤ I.facilities) (few : I.facilities ≤ most_yards)

@@ -14,14 +14,14 @@ use Rattle.model.specs.Scaled.{scaled}
 use Rattle.model.proofs.ScaledLaws.{scaled_opening, scaled_service}
 use Rattle.model.proofs.CostLaws.{same_service, same_opening}
 use Rattle.record.specs.declared.Record.{Record}
-use Rattle.record.specs.Records.{record_at, whole_record_at, amount_at}
+use Rattle.record.specs.Records.{record_at, amount_at}
 use Rattle.questions.specs.Bounds.{most_loads, most_fee, most_haul}
 use Rattle.model.specs.Answers.{accepted}
 use Rattle.questions.specs.Sheet.{fee, haul, farm_byte, loads_of, instance_by}
 use Rattle.questions.specs.Reading.{counts, reading}
 use Rattle.questions.proofs.AcceptedLaws.{HasAmounts, accepts, shape_of}
 use Rattle.stretch.specs.Stretch.{stretch}
-use Rattle.stretch.proofs.FarmLaws.{stretch_record, byte_on}
+use Rattle.stretch.proofs.FarmLaws.{stretch_record}
 use Rattle.tables.specs.Tables.{tabled, table_cost, good_tables}
 use Rattle.tables.proofs.LentTableLaws.{good_from}
 use Rattle.model.proofs.PlaceLaws.{front_more, row_within, few_places}
@@ -31,13 +31,12 @@ use Rattle.plan_search.specs.SheetTables.{Holds, most_factor, scaled_fee, scaled
 
 -- a fee more
 module _ (factor : ℕ) (s : List ℕ) where
-  pub fee_more : (i x : ℕ) (table : List ℕ) → i < length table → x ≡ amount_at s i → Holds (scaled_fee factor s) i table
+  pub fee_more : (i x : ℕ) (table : List ℕ) → i < length table → x ≡ fee s i → Holds (scaled_fee factor s) i table
       → Holds (scaled_fee factor s) (i + 1) (set table i (factor * x))
-  unfolding amount_at fee scaled_fee
+  unfolding scaled_fee
   fee_more i x table room e h = front_more (scaled_fee factor s) i (factor * x) table room (ap (λ (y : ℕ). factor * y) e) h
 
-  pub fee_small : (m n i x : ℕ) → reading s ≡ accepted (counts m n) → factor ≤ most_factor → i < m → x ≡ amount_at s i → factor * x ≤ most_factor * most_fee
-  unfolding amount_at fee
+  pub fee_small : (m n i x : ℕ) → reading s ≡ accepted (counts m n) → factor ≤ most_factor → i < m → x ≡ fee s i → factor * x ≤ most_factor * most_fee
   fee_small m n i x e few l read =
       let all = accepts s m n e in
       let within : x ≤ most_fee = omega (arith, read, all.fees i l) in
@@ -63,9 +62,9 @@ in_rows s m n p a e lp la = let form = (accepts s m n e).has in
 
 -- a turn in a farm's row, with what its call answers of the farm's stretch
 module _ (factor : ℕ) (s : List ℕ) (m n p : ℕ) (e : reading s ≡ accepted (counts m n)) (below : p < n) (hauls : List ℕ) (part : hauls ≡ stretch s m p)
-    (r : Record) (first : r ≡ whole_record_at hauls 0) (loads : ℕ) (told : loads ≡ loads_of r.byte3) where
+    (byte : ℕ) (read_byte : byte ≡ farm_byte s m p) (loads : ℕ) (told : loads ≡ loads_of byte) where
   loads_are : loads ≡ loads_of (farm_byte s m p)
-  loads_are = told ∙ ap loads_of (byte_on s m n p (shape_of (accepts s m n e).has) below hauls r part first)
+  loads_are = told ∙ ap loads_of read_byte
 
   haul_is : (a x : ℕ) → a < m → x ≡ amount_at hauls a → x ≡ haul s m a p
   unfolding amount_at haul

@@ -3,6 +3,7 @@ use Rattle.std.specs.Prelude.{ℕ, true, false, List}
 use Rattle.model.specs.Limit.{Outcome}
 use Rattle.model.specs.Answers.{Answer, accepted}
 use Rattle.questions.specs.Sheet.{farm_byte, instance_by}
+use Rattle.stretch.specs.declared.counted_sheet.CountedSheet.{CountedSheet}
 use Rattle.engine.specs.declared.Neighbourhood.TheVariants.{AddDropSwap, Swap}
 use Rattle.engine.specs.declared.Found.{Found}
 use Rattle.engine.specs.declared.Found.TheVariants.{Stopped, Settled}
@@ -25,3 +26,6 @@ outcome_of (Settled set cost moves) = record { stopped = false; set = set; steps
 -- the plan on a sheet of m yards and n farms
 unfoldable pub plan_on : PlanKind → List ℕ → ℕ → ℕ → Outcome → Answer SearchPlan
 plan_on kind s m n r = accepted (search_plan (instance_by s m n) (farm_byte s m) (total_by kind (instance_by s m n)) r)
+
+abbrev pub plan_of : PlanKind → CountedSheet → Outcome → Answer SearchPlan
+plan_of kind c r = plan_on kind c.bytes.now c.yards c.farms r

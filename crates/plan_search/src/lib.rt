@@ -6,15 +6,18 @@
 #![tactic(auto)]
 
 mod planning;
+mod read_sheet;
 mod sheet_tables;
 
 ghost use Rattle.std.specs.Prelude.{◌≡◌, length};
 ghost use Rattle.price.specs.Pricing.{area_after};
 ghost use Rattle.plan_search.specs.Planning.{searched_answer, search_answer, plan_left, search_planning};
 
+use read_sheet::ReadSheet;
 use refusal::Refusal;
 use sheet::Counts;
 use starts::PlanStart;
+use stretch::CountedSheet;
 
 // What a search goes by. Open: fees and hauls, by adds, drops and swaps of yards. Limited: hauls alone, by swaps.
 #[derive(Clone, Copy)]
@@ -47,5 +50,11 @@ pub fn search_plan(
     if !plan_area::plan_fits(yards, farms, area.len()) {
         return Err(Refusal::Area);
     }
-    Ok(planning::plan_on(kind, start, limit, sheet, yards, farms, area))
+    let counted = CountedSheet {
+        bytes: sheet,
+        yards,
+        farms,
+    };
+    let read = ReadSheet { counted };
+    Ok(planning::plan_on(kind, start, limit, read, area))
 }

@@ -8,8 +8,7 @@ ghost use Rattle.std.specs.Prelude.{◌≡◌, ◌*◌, ◌+◌, ◌≤◌, min,
 ghost use Rattle.plan_area.specs.Plan.{plan_set};
 ghost use Rattle.plan_set.specs.Opened.{opened_by, with_record};
 
-use plan_area::KIND_OPEN;
-use record::Record;
+use record::{Kind, Record};
 
 // The yards in the records of kind 4F among the first so many bytes of an area, or among all of them where it has fewer.
 pub fn plan_set(area: &[u8], bytes: usize) -> u32
@@ -36,8 +35,9 @@ fn with_record(area: &[u8], i: usize, set: u32) -> u32
     ensures { result ≡ with_record area.now i set }
 {
     let record = Record::at(area, i);
-    match record.kind {
-        KIND_OPEN => sets::added(set, record.yard as usize),
-        _ => set,
+    if record.kind == Kind::Open as u8 {
+        sets::added(set, record.yard as usize)
+    } else {
+        set
     }
 }

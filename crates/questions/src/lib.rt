@@ -15,12 +15,8 @@ ghost use Rattle.questions.specs.Questions.{question1, well_formed, question2};
 ghost use Rattle.refusal.specs.Numbers.{answer_of};
 ghost use Rattle.questions.specs.Reading.{form, form_and_loads};
 
-use record::Record;
+use record::{Kind, Record};
 use refusal::Refusal;
-
-pub const KIND_YARD: u8 = 0x59;
-
-pub const KIND_HAUL: u8 = 0x48;
 
 pub const LEAST_BYTES: usize = 16;
 
@@ -71,7 +67,7 @@ pub fn form_and_loads_of(sheet: &[u8]) -> Result<Counts, Refusal>
     Ok(counts)
 }
 
-// The loads that a byte tells: 0 is read as 1.
+// The loads that a byte tells: 0 is read as 1. Stays a function: it is public, and a byte is no type of ours to convert from.
 pub fn loads_of(byte3: u8) -> u64
     ensures { result ≡ loads_of byte3 }
 {
@@ -82,11 +78,10 @@ pub fn loads_of(byte3: u8) -> u64
 pub fn well_formed(record: Record) -> bool
     ensures { result ≡ well_formed «record» }
 {
-    match record.kind {
-        KIND_YARD => record.farm == 0 && record.byte3 == 0,
-        KIND_HAUL => true,
-        _ => false,
+    if record.kind == Kind::Yard as u8 {
+        return record.farm == 0 && record.byte3 == 0;
     }
+    record.kind == Kind::Haul as u8
 }
 
 // Question 1.

@@ -4,8 +4,8 @@ ghost use Rattle.model.specs.Loops.{all_below};
 ghost use Rattle.questions.specs.Sheet.{yards, hauls};
 ghost use Rattle.questions.specs.Questions.{numbered, no_yard_after, question3};
 
-use crate::{KIND_YARD, MOST_YARDS};
-use record::Record;
+use crate::MOST_YARDS;
+use record::{Kind, Record};
 
 // How many yard records stand first.
 pub(crate) fn leading_yards(sheet: &[u8]) -> usize
@@ -13,7 +13,7 @@ pub(crate) fn leading_yards(sheet: &[u8]) -> usize
 {
     let n = sheet.len() / Record::LEN;
     (0..n)
-        .position(|i| Record::at(sheet, i).kind != KIND_YARD)
+        .position(|i| Record::at(sheet, i).kind != Kind::Yard as u8)
         .unwrap_or(n)
 }
 
@@ -31,7 +31,7 @@ fn no_yard_after(sheet: &[u8], m: usize) -> bool
     ensures { result ≡ all_below (hauls sheet.now) (no_yard_after sheet.now m) }
 {
     let after = sheet.len() / Record::LEN - m;
-    (0..after).all(|i| Record::at(sheet, m + i).kind != KIND_YARD)
+    (0..after).all(|i| Record::at(sheet, m + i).kind != Kind::Yard as u8)
 }
 
 // Question 3, of a sheet with m yard records first.

@@ -1,2 +1,3 @@
--- Records: eight bytes, and where they are put in an area.
+-- Records: eight bytes, and where they are put in an area. Kinds: the byte of each kind of record.
 pub mod Records
+pub mod Kinds

@@ -4,8 +4,12 @@
 
 #![tactic(auto)]
 
+mod kind;
+
 ghost use Rattle.std.specs.Prelude.{◌≡◌};
 ghost use Rattle.record.specs.Records.{record_of, whole_record_at, put_at};
+
+pub use kind::{Kind, UnknownKind};
 
 #[derive(Clone, Copy)]
 pub struct Record {

@@ -54,7 +54,8 @@ fn both_fit(costs: &[u32], sums: &[u64], added: usize, more: usize) -> bool
     COLUMNS <= costs.len() && columns_fit(added, more) && columns_fit(more, sums.len())
 }
 
-// What a cost is above another one. The compiler makes a comparison of signed numbers of this, which every x86-64 processor does by vector.
+// What a cost is above another one. The compiler makes the greater of signed numbers of this, by vector.
+// Stays by hand: `saturating_sub`, as fast (9.3 ns a row for 9.9), differs for a cost 2^31 or more above the other, where `above` is 0: it may not change.
 fn over(cost: u32, other: u32) -> u32
     ensures { result ≡ above cost other }
 {

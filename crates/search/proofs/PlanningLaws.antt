@@ -39,13 +39,13 @@ use Rattle.search.specs.Written.{written_answer}
 -- ---- without a limit on moves the plan left is that of document 01
 
 module _ (s : List ℕ) (room : ℕ) where
-  pub open_unlimited : plan_left (search_planning Open Cheapest no_limit s room) ≡ open_planning s room
+  pub open_planning_lem : plan_left (search_planning Open Cheapest no_limit s room) ≡ open_planning s room
   unfolding open_planning open_plan plan_of open_end settled_at open_search open_start ask_start start_by cost_by_kind moves_by total_by
-  open_unlimited = unlimited Open Cheapest no_limit (le_refl no_limit) s room
+  open_planning_lem = unlimited Open Cheapest no_limit (le_refl no_limit) s room
 
-  pub limited_unlimited : (k : ℕ) → plan_left (search_planning Limited (First k) no_limit s room) ≡ limited_planning s k room
+  pub limited_planning_lem : (k : ℕ) → plan_left (search_planning Limited (First k) no_limit s room) ≡ limited_planning s k room
   unfolding limited_planning limited_plan question7 starts.question7 plan_of limited_end settled_at limited_search ask_start start_by cost_by_kind moves_by total_by
-  limited_unlimited k = unlimited Limited (First k) no_limit (le_refl no_limit) s room
+  limited_planning_lem k = unlimited Limited (First k) no_limit (le_refl no_limit) s room
 
 -- ---- so the calls answer and leave what it says
 

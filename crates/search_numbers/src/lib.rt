@@ -22,6 +22,7 @@ const BIT_32: u64 = 4294967296;
 
 const BYTES_END: u64 = 8388608;
 
+// Stays a function, and two sums: a `From` of the library's `Result` could stand in no crate here, and the two differ in the bit between.
 pub fn searched_number<E: Numbered>(searched: Result<Searched, E>) -> u64
     ensures { result ≡ searched_number (searched_by E.number searched) }
 {

@@ -43,6 +43,7 @@ pub fn removed(set: u32, i: usize) -> u32
 }
 
 // The yards of a set by number: the first `count` places of the list.
+// Stays a list with a count, both public: `members_of` and `members_below` give it, and there is no heap; `yards` is the slice.
 #[derive(Clone, Copy)]
 pub struct Members {
     pub list: [u8; BITS],

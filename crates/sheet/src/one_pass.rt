@@ -8,10 +8,8 @@ ghost use Rattle.questions.specs.Shape.{Shape};
 ghost use Rattle.sheet.specs.Hauls.{HasRows, Filled};
 ghost use Rattle.sheet.specs.OnePass.{record_is, good_yards, good_farm, Told};
 
-use questions::{
-    Counts, KIND_HAUL, KIND_YARD, LEAST_BYTES, MOST_BYTES, MOST_FARMS, MOST_LOADS, MOST_YARDS,
-};
-use record::Record;
+use questions::{Counts, LEAST_BYTES, MOST_BYTES, MOST_FARMS, MOST_LOADS, MOST_YARDS};
+use record::{Kind, Record};
 
 const MOST_FEE: u32 = 50000000;
 
@@ -81,13 +79,13 @@ fn good_yards(sheet: &[u8]) -> Option<usize>
     let records = sheet.len() / Record::LEN;
     for i in 0..records {
         let record = record_within(sheet, i);
-        if record.kind != KIND_YARD {
+        if record.kind != Kind::Yard as u8 {
             return Some(i);
         }
         if MOST_YARDS <= i {
             return None;
         }
-        if !record_is(record, KIND_YARD, i as u8, 0, 0, MOST_FEE) {
+        if !record_is(record, Kind::Yard as u8, i as u8, 0, 0, MOST_FEE) {
             return None;
         }
     }
@@ -106,7 +104,7 @@ fn good_farm(sheet: &[u8], m: usize, p: usize, table: &mut [u32]) -> bool
     }
     for a in 0..m {
         let record = record_within(sheet, m + p * m + a);
-        if !record_is(record, KIND_HAUL, a as u8, p as u8, loads, MOST_HAUL) {
+        if !record_is(record, Kind::Haul as u8, a as u8, p as u8, loads, MOST_HAUL) {
             return false;
         }
         table[four_point::ROW_PLACES * a + p] = record.amount;

@@ -11,12 +11,9 @@ use Rattle.model.proofs.SetLaws.{member_without}
 use Rattle.model.proofs.CostLaws.{nearest_cong}
 use Rattle.model.proofs.SumLaws.{Summed, summed_none, summed_more}
 use Rattle.sets.specs.Members.{rising_below, listed}
-use Rattle.record.specs.Records.{whole_record_at}
-use Rattle.record.specs.declared.Record.{Record}
 use Rattle.questions.specs.Sheet.{farm_byte, loads_of, instance_by}
 use Rattle.questions.specs.Shape.{Shape}
 use Rattle.stretch.specs.Stretch.{stretch}
-use Rattle.stretch.proofs.FarmLaws.{byte_on}
 use Rattle.nearest.specs.Nearest.{Nearest}
 use Rattle.nearest.specs.Nearest.{nearest_in, nearest_on}
 use Rattle.plan_area.proofs.FarmNearestLaws.{farm_listed, farm_yard, farm_haul}
@@ -49,13 +46,13 @@ module _ (s : List ℕ) (m n set yard : ℕ) where
           rw (ne_eqb (assigned (instance_by s m n) (member set) p) yard (λ q. other (goes ∙ q))) (refl, refl)
 
       -- it goes to this one
-      pub moves : first.yard ≡ yard → (rest : List ℕ) (second : Nearest) (r : Record) (loads : ℕ) → rest ≡ rising_below m (without set yard)
-          → second ≡ nearest_in s hauls (listed rest) → r ≡ whole_record_at hauls 0 → loads ≡ loads_of r.byte3
+      pub moves : first.yard ≡ yard → (rest : List ℕ) (second : Nearest) (byte loads : ℕ) → rest ≡ rising_below m (without set yard)
+          → second ≡ nearest_in s hauls (listed rest) → byte ≡ farm_byte s m p → loads ≡ loads_of byte
           → (loads * first.haul ≡ farm_there s m n set yard p) × (loads * second.haul ≡ farm_elsewhere s m n set yard p)
-      moves here rest second r loads er h' eb told =
+      moves here rest second byte loads er h' eb told =
           let goes = listed_near set yards first e h in
           let at : assigned (instance_by s m n) (member set) p ≡ yard = sym goes.0 ∙ here in
-          let weight : loads ≡ loads_of (farm_byte s m p) = told ∙ ap loads_of (byte_on s m n p shape below hauls r part eb) in
+          let weight : loads ≡ loads_of (farm_byte s m p) = told ∙ ap loads_of eb in
           rw (eq-eqb (assigned (instance_by s m n) (member set) p) yard at)
           (ap₂ ◌*◌ weight goes.1, ap₂ ◌*◌ weight ((listed_near (without set yard) rest second er h').1 ∙ without_first (instance_by s m n) set yard p at))
 

@@ -17,18 +17,15 @@ use Rattle.model.proofs.SetLaws.{member_without, member_below, some_member, memb
 use Rattle.model.proofs.LeastLaws.{any_counted, counted_any}
 use Rattle.model.proofs.CostLaws.{total_cong}
 use Rattle.model.proofs.ClosingLaws.{closing_change_lem}
-use Rattle.record.specs.Records.{whole_record_at}
-use Rattle.record.specs.declared.Record.{Record}
-use Rattle.questions.specs.Sheet.{instance_by, instance_of}
+use Rattle.questions.specs.Sheet.{fee, instance_by, instance_of}
 use Rattle.questions.specs.Reading.{counts, reading}
 use Rattle.questions.proofs.AcceptedLaws.{shape_of, instance_is, accepts}
-use Rattle.questions.proofs.AmountLaws.{yard_fee}
 use Rattle.stretch.specs.Stretch.{stretch}
 use Rattle.nearest.specs.Nearest.{Nearest}
 use Rattle.nearest.specs.Nearest.{near, second_on}
 use Rattle.plan_area.proofs.FarmNearestLaws.{farm_second}
 use Rattle.price.specs.Pricing.{question8}
-use Rattle.std.specs.Prelude.{Result, Ok}
+use Rattle.std.specs.Prelude.{Result}
 use Rattle.refusal.specs.declared.Refusal.{Refusal}
 use Rattle.refusal.specs.Numbers.{answer_of}
 use Rattle.shut.specs.Shutting.{second_of, seconding, question14, shutting, IsDifference}
@@ -109,13 +106,13 @@ module _ (s : List ℕ) (set yard : ℕ) where
         unfolding question8 question14
         yard_there = member_below m set yard (ltb-true set (2 ^ m) (and_right (leb 1 set) _ q)) (and_left (member set yard) _ h)
 
-        pub shut_told : (r : Record) (there elsewhere : ℕ) (change : ℤ) → r ≡ whole_record_at s yard → there ≡ cost_at (instance_by s m n) (member set) yard
-            → elsewhere ≡ cost_elsewhere (instance_by s m n) (member set) yard → change ≡ pos elsewhere -ℤ pos (r.amount + there)
+        pub shut_told : (amount there elsewhere : ℕ) (change : ℤ) → amount ≡ fee s yard → there ≡ cost_at (instance_by s m n) (member set) yard
+            → elsewhere ≡ cost_elsewhere (instance_by s m n) (member set) yard → change ≡ pos elsewhere -ℤ pos (amount + there)
             → accepted change ≡ shutting s set yard
         unfolding shutting closing_change instance_by
-        shut_told r there elsewhere change er et ee ec =
+        shut_told amount there elsewhere change ef et ee ec =
             let has = (accepts s m n e).has in
-            let is : change ≡ closing_change (instance_by s m n) (member set) yard = ec ∙ rw (et, ee, yard_fee s m n (shape_of has) yard yard_there r er) in
+            let is : change ≡ closing_change (instance_by s m n) (member set) yard = ec ∙ rw (et, ee, ef) in
             rw (e, q, h) (ap accepted (is ∙ ap (λ I. closing_change I (member set) yard) (instance_is has)))
 
   -- and back: an accepted call passed its questions

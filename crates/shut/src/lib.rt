@@ -10,11 +10,12 @@ ghost use Rattle.shut.specs.Shutting.{second_answer, seconding, shutting, IsDiff
 
 use hauls_moved::hauls_moved;
 use nearest::Nearest;
-use record::Record;
 use refusal::Refusal;
 use sheet::Counts;
+use stretch::CountedSheet;
 
 mod hauls_moved;
+mod shut_yard;
 
 // The second nearest open yard of a farm and the haul there, in the order that a plan goes by. A farm n or above has none.
 pub fn second(sheet: &[u8], set: u32, farm: usize) -> Result<Option<Nearest>, Refusal>
@@ -44,8 +45,13 @@ pub fn shut(sheet: &[u8], set: u32, yard: usize) -> Result<i64, Refusal>
     if !can_shut(set, yard) {
         return Err(Refusal::ShutYard);
     }
-    let fee = Record::at(sheet, yard).amount;
-    let moved = hauls_moved(sheet, yards, farms, set, yard);
+    let counted = CountedSheet {
+        bytes: sheet,
+        yards,
+        farms,
+    };
+    let fee = counted.fee(yard);
+    let moved = hauls_moved(counted, set, yard);
     Ok(less(moved.elsewhere, (fee as u64) + moved.there))
 }
 

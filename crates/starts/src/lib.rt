@@ -24,6 +24,7 @@ pub enum PlanStart {
 pub fn ask_start(start: PlanStart, m: usize) -> Result<(), Refusal>
     ensures { answer_of result ≡ asked_start start m }
 {
+    // Stays a match on the start's kind: what is asked of each is a clause of its own.
     match start {
         PlanStart::Cheapest => Ok(()),
         PlanStart::First(k) => {
@@ -50,6 +51,7 @@ pub fn ask_start(start: PlanStart, m: usize) -> Result<(), Refusal>
 pub fn engine_start(start: PlanStart) -> Start
     ensures { result ≡ engine_start start }
 {
+    // Stays a match: it gives a value for each kind, and runs nothing.
     match start {
         PlanStart::Cheapest => Start::Cheapest,
         PlanStart::First(k) => {

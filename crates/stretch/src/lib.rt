@@ -9,6 +9,10 @@ ghost use Rattle.stretch.specs.Stretch.{stretch, farm_hauls, farm_from, HaulsFro
 use questions::{Counts, MOST_FARMS, MOST_YARDS};
 use record::Record;
 
+mod counted_sheet;
+
+pub use counted_sheet::CountedSheet;
+
 // The hauls of a farm: its part of the caller's sheet, uncopied. Empty for a farm that the sheet does not have, and for a
 // sheet that questions 1 to 4 turn down.
 pub fn farm_hauls(sheet: &[u8], farm: usize) -> &[u8]

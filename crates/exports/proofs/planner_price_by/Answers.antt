@@ -1,16 +1,12 @@
 -- `planner_price_by` meets its contract: `price_by::price_by` does, and its answers keep to their bits.
-use mathlib.Core.Path.{◌≡◌, sym, ap, subst, ◌∙◌}
-use Rattle.numbers.specs.Numbers.{result_number, KeepsBits}
+use mathlib.Core.Path.{◌≡◌, sym, subst}
+use Rattle.numbers.specs.Numbers.{KeepsBits}
 use Rattle.numbers.proofs.SaidLaws.{of_written}
 use Rattle.exports.proofs.NumberByLaws.{pricing_by_within}
 use Rattle.exports.proofs.planner_price_by.Goals as goal
 
-pub returns : goal.returns
-returns c = let priced = c.price_by-priced in
+pub returns-clause-kept : goal.returns-clause-kept
+returns-clause-kept c = let priced = c.price_by-priced in
     let a = c.args in
     let bits = subst KeepsBits (sym priced.ensures.answer) (pricing_by_within _ _ _ _ _) in
-    record {
-      answer = rw (← c.choice_of.ensures) (c.plan_number.ensures ∙ ap result_number priced.ensures.answer);
-      area = rw (← c.choice_of.ensures) priced.ensures.area;
-      kept = (of_written _ priced.new.area (λ kept. kept ≡ a.set) priced.result bits c.plan_number.ensures priced.ensures.kept);
-    }
+    (of_written _ priced.new.area (λ kept. kept ≡ a.set) priced.result bits c.plan_number.ensures priced.ensures.kept)

@@ -17,10 +17,12 @@ returns-then-not-offers_good c = let e = sym c.read.ensures ∙ ap answer_of c.i
     let told = answers _ _ _ (broken _ _ _ _ e (said_no c.offers_good.ensures c.if-not-offers_good.true)) in
     record { answer = told.0; under = told.1 }
 
+pub invariant_of-counted : goal.invariant_of-counted
+invariant_of-counted c = record { shape = shape_of (accepts _ _ _ (sym c.read.ensures ∙ ap answer_of c.in_ok-yards.was)).has }
+
 pub add_offers-sum-requires : goal.add_offers-sum-requires
 add_offers-sum-requires c = let shape = shape_of (accepts _ _ _ (sym c.read.ensures ∙ ap answer_of c.in_ok-yards.was)).has in
     let a = c.args in (
-      shape,
       long_enough _ _ (said_yes c.offers_good.ensures c.if-not-offers_good.false),
       shape.few_yards,
       offered_none a.sheet.now _ a.offers.now 32,
@@ -28,7 +30,7 @@ add_offers-sum-requires c = let shape = shape_of (accepts _ _ _ (sym c.read.ensu
 
 pub fees_cover-requires : goal.fees_cover-requires
 fees_cover-requires c = let shape = shape_of (accepts _ _ _ (sym c.read.ensures ∙ ap answer_of c.in_ok-yards.was)).has in
-    (omega (arith, shape.room), omega (arith, shape.few_yards, c.add_offers-sum.auto.excess))
+    omega (arith, shape.few_yards, c.add_offers-sum.auto.excess)
 
 pub returns-then-not-fees_cover : goal.returns-then-not-fees_cover
 returns-then-not-fees_cover c = let e = sym c.read.ensures ∙ ap answer_of c.in_ok-yards.was in

@@ -19,6 +19,7 @@ use Rattle.tables.specs.Tables.{table_cost, good_tables}
 use Rattle.tables.proofs.LentTableLaws.{good_when}
 use Rattle.engine.specs.Moves.{neighbours_by}
 use Rattle.engine.specs.SearchOnTables.{found, searching}
+use Rattle.engine.specs.declared.Neighbourhood.{Neighbourhood}
 use Rattle.engine.specs.declared.Start.{Start}
 use Rattle.engine.specs.declared.Found.{Found}
 use Rattle.starts.specs.Starts.{start_by, start_refusal, engine_start}
@@ -84,6 +85,23 @@ parts_stopped end set cost moves e =
       cost_is = λ f is. subst (cost_in f) e (cost_found f end is);
     }
 
+-- ---- the engine takes good tables and a start that passes its question
+
+module _ (moves : Neighbourhood) (start : PlanStart) (limit m n : ℕ) (opening service : List ℕ) (good : good_tables m n opening service ≡ true)
+    (passed : start_refusal start m ≡ 0) (begins : Start) (same : begins ≡ engine_start start) where
+  pub found_is : searching moves begins limit opening service m n ≡ Some (found (table_cost m n opening service)
+      (search_within (table_cost m n opening service) (neighbours_by moves m) limit (start_by start (table_cost m n opening service) m)))
+  unfolding searching
+  found_is =
+      let few : m ≤ most_yards = (good_when m n opening service good).few_facilities in
+      let cost = table_cost m n opening service in
+      ap (λ (x : Start). searching moves x limit opening service m n) same
+      ∙ rw (good, start_taken m start few passed)
+      (ap (λ (y : ℕ). Some (found cost (search_within cost (neighbours_by moves m) limit y))) (start_same m start few passed n opening service))
+
+  pub not_refused : (r : Option Found) → r ≡ searching moves begins limit opening service m n → r ≡ None → ⊥
+  not_refused r answers none = true≢false (ap is_some (sym found_is ∙ sym answers ∙ none))
+
 -- ---- on tables filled from a sheet
 
 -- tables of 32 and of 4,096 places have room for every accepted sheet's
@@ -94,51 +112,47 @@ tables_room s m n e = let form = (accepts s m n e).has in
 pub factors_few : (kind : PlanKind) (terms : Terms) → terms ≡ terms_of kind → (terms.fees ≤ most_factor) × (terms.hauls ≤ most_factor)
 factors_few kind terms by = rw by (few_factors kind)
 
+module _ (kind : PlanKind) (start : PlanStart) (limit : ℕ) (s : List ℕ) (m n : ℕ) (terms : Terms) (by : terms ≡ terms_of kind)
+    (opening service : List ℕ) (fees_held : Holds (scaled_fee terms.fees s) m opening) (hauls_held : Holds (scaled_haul terms.hauls s m) (n * m) service) where
+  pub costs_are : table_cost m n opening service ≡ cost_by_kind kind (instance_by s m n)
+  costs_are =
+      fun_ext (λ set. table_cost_lem s m n terms.fees terms.hauls opening service fees_held hauls_held set
+      ∙ rw by (sym (cost_terms kind (instance_by s m n) set)))
+
+  -- where a search by the tables' cost ends, there ends that of the sheet's instance
+  pub same_end : (r : Found) → r ≡ found (table_cost m n opening service) (search_within (table_cost m n opening service) (neighbours_by terms.moves m) limit
+      (start_by start (table_cost m n opening service) m)) → r ≡ found (cost_by_kind kind (instance_by s m n)) (outcome_by kind start limit (instance_by s m n))
+  unfolding outcome_by instance_by
+  same_end r ended =
+      ended ∙ ap (λ (t : Terms). found (table_cost m n opening service) (search_within (table_cost m n opening service) (neighbours_by t.moves m) limit
+      (start_by start (table_cost m n opening service) m))) by
+      ∙ ap₂ (λ (cost : ℕ → ℕ) (moves : ℕ → List ℕ). found cost (search_within cost moves limit (start_by start cost m))) costs_are (moves_terms kind m)
+
 module _ (kind : PlanKind) (start : PlanStart) (limit : ℕ) (s : List ℕ) (m n : ℕ) (e : reading s ≡ accepted (counts m n)) (passed : start_refusal start m ≡ 0)
     (terms : Terms) (by : terms ≡ terms_of kind) (opening service : List ℕ) (fees_held : Holds (scaled_fee terms.fees s) m opening)
     (hauls_held : Holds (scaled_haul terms.hauls s m) (n * m) service) (opening_room : m ≤ length opening) (service_room : n * m ≤ length service)
     (begins : Start) (same : begins ≡ engine_start start) where
   -- the engine takes the tables
-  good : good_tables m n opening service ≡ true
+  pub good : good_tables m n opening service ≡ true
   good =
       tables_good s m n terms.fees terms.hauls (accepts s m n e) (factors_few kind terms by).0 (factors_few kind terms by).1 opening service fees_held hauls_held
       opening_room service_room
 
-  costs_are : table_cost m n opening service ≡ cost_by_kind kind (instance_by s m n)
-  costs_are =
-      fun_ext (λ set. table_cost_lem s m n terms.fees terms.hauls opening service fees_held hauls_held set
-      ∙ rw by (sym (cost_terms kind (instance_by s m n) set)))
-
-  -- and the start
-  on_tables : searching terms.moves begins limit opening service m n ≡ Some (found (table_cost m n opening service)
-      (search_within (table_cost m n opening service) (neighbours_by terms.moves m) limit (start_by start (table_cost m n opening service) m)))
-  unfolding searching
-  on_tables =
-      let few : m ≤ most_yards = (good_when m n opening service good).few_facilities in
-      let cost = table_cost m n opening service in
-      ap (λ (x : Start). searching terms.moves x limit opening service m n) same
-      ∙ rw (good, start_taken m start few passed)
-      (ap (λ (y : ℕ). Some (found cost (search_within cost (neighbours_by terms.moves m) limit y))) (start_same m start few passed n opening service))
-
-  -- so it gives an end
   pub some_end : (r : Option Found) → r ≡ searching terms.moves begins limit opening service m n → r ≡ None → ⊥
-  some_end r answers none = true≢false (ap is_some (sym on_tables ∙ sym answers ∙ none))
+  some_end = not_refused terms.moves start limit m n opening service good passed begins same
 
   module _ (r : Found) (answers : Some r ≡ searching terms.moves begins limit opening service m n) where
-    -- and its search is that of the sheet's instance
-    same_end : r ≡ found (cost_by_kind kind (instance_by s m n)) (outcome_by kind start limit (instance_by s m n))
-    unfolding outcome_by instance_by
-    same_end =
-        ap (λ (o : Option Found). unwrap_or o r) (answers ∙ on_tables)
-        ∙ ap (λ (t : Terms). found (table_cost m n opening service) (search_within (table_cost m n opening service) (neighbours_by t.moves m) limit
-        (start_by start (table_cost m n opening service) m))) by
-        ∙ ap₂ (λ (cost : ℕ → ℕ) (moves : ℕ → List ℕ). found cost (search_within cost moves limit (start_by start cost m))) costs_are (moves_terms kind m)
+    -- what it finds is where the search of the sheet's instance ends
+    end_is : r ≡ found (cost_by_kind kind (instance_by s m n)) (outcome_by kind start limit (instance_by s m n))
+    end_is =
+        same_end kind start limit s m n terms by opening service fees_held hauls_held r
+        (ap (λ (o : Option Found). unwrap_or o r) (answers ∙ found_is terms.moves start limit m n opening service good passed begins same))
 
     pub end_outcome : outcome_of r ≡ outcome_by kind start limit (instance_by s m n)
-    end_outcome = ap outcome_of same_end ∙ found_outcome (cost_by_kind kind (instance_by s m n)) (outcome_by kind start limit (instance_by s m n))
+    end_outcome = ap outcome_of end_is ∙ found_outcome (cost_by_kind kind (instance_by s m n)) (outcome_by kind start limit (instance_by s m n))
 
     pub end_found : r ≡ found (cost_by_kind kind (instance_by s m n)) (outcome_of r)
-    end_found = same_end ∙ ap (found (cost_by_kind kind (instance_by s m n))) (sym end_outcome)
+    end_found = end_is ∙ ap (found (cost_by_kind kind (instance_by s m n))) (sym end_outcome)
 
     pub end_moves : (outcome_of r).steps < amount_end
     unfolding instance_by

@@ -6,7 +6,7 @@ use Rattle.model.proofs.Bools.{said_no, said_yes}
 use Rattle.std.proofs.lemmas.Result.{err_from_is_err_and}
 use Rattle.refusal.specs.Numbers.{answer_of}
 use Rattle.starts.proofs.StartLaws.{passed_alone, refused_alone}
-use Rattle.questions.proofs.AcceptedLaws.{accepts}
+use Rattle.questions.proofs.AcceptedLaws.{accepts, shape_of}
 use Rattle.plan_area.proofs.PlanRecordLaws.{fits_within}
 use Rattle.plan_search.proofs.PlanningLaws.{refuses, as_outcome, unread, bad_start, no_room, planned}
 use Rattle.plan_search.proofs.search_plan.Goals as goal
@@ -25,10 +25,15 @@ returns-then-not-plan_fits c = let e = sym c.read.ensures ∙ ap answer_of c.in_
     (said_no (c.plan_fits.ensures ∙ fits_within _ _ _ form.some_yards form.few_yards form.few_farms) c.if-not-plan_fits.true)) in
     record { answer = told.0; area = told.1 }
 
+pub invariant_of-counted : goal.invariant_of-counted
+invariant_of-counted c = record { shape = shape_of (accepts _ _ _ (sym c.read.ensures ∙ ap answer_of c.in_ok-yards.was)).has }
+
+pub invariant_of-read : goal.invariant_of-read
+invariant_of-read c = record { read = sym c.read.ensures ∙ ap answer_of c.in_ok-yards.was }
+
 pub plan_on-requires : goal.plan_on-requires
 plan_on-requires c = let e = sym c.read.ensures ∙ ap answer_of c.in_ok-yards.was in
     let form = (accepts _ _ _ e).has in (
-      e,
       passed_alone _ _ (sym (ap answer_of c.in_ok-ask_start.was) ∙ c.ask_start.ensures),
       said_yes (c.plan_fits.ensures ∙ fits_within _ _ _ form.some_yards form.few_yards form.few_farms) c.if-not-plan_fits.false,
     )

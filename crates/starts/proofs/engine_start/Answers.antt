@@ -1,7 +1,6 @@
 -- `engine_start` meets its contract: each arm is a case of `engine_start`; the shift is exact, and 2 ^ k - 1 has at most 32 bits.
 use native.Mathlib.Omega.{arith}
 use borrow.Author.Tests.{le-leb, lt-leb}
-use lib.Pow.{pow_pos, pow_mono}
 use Rattle.model.specs.Plans.{limited_start}
 use Rattle.model.proofs.SetLaws.{one_shl}
 use Rattle.questions.specs.Bounds.{most_yards}
@@ -11,13 +10,6 @@ use Rattle.starts.proofs.engine_start.Goals as goal
 pub returns-then-k-gt-MOST_YARDS : goal.returns-then-k-gt-MOST_YARDS
 unfolding engine_start
 returns-then-k-gt-MOST_YARDS c = let k = c.in-First.k in rw (c.in-First.is, lt-leb k most_yards c.if-k-gt-MOST_YARDS.true)
-
-pub overflow_sub-first_yards : goal.overflow_sub-first_yards
-overflow_sub-first_yards c = let k = c.in-First.k in rw (one_shl 64 k (omega (arith, c.if-k-gt-MOST_YARDS.false))) (pow_pos k)
-
-pub overflow_cast-result : goal.overflow_cast-result
-overflow_cast-result c = let k = c.in-First.k in
-    omega (arith, one_shl 64 k (omega (arith, c.if-k-gt-MOST_YARDS.false)), pow_mono c.if-k-gt-MOST_YARDS.false)
 
 pub returns-in-Cheapest : goal.returns-in-Cheapest
 unfolding engine_start

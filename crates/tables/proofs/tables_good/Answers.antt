@@ -1,10 +1,7 @@
 -- `tables_good` meets its contract: one test after the other.
 use mathlib.Core.Path.{sym, ◌∙◌}
 use Prim.Native.Nat.{◌*◌}
-use lib.Seq.{length-take-le}
-use native.Mathlib.Omega.{arith}
 use Rattle.model.proofs.Bools.{said_no, said_yes}
-use Rattle.model.proofs.PlaceLaws.{few_places}
 use Rattle.tables.proofs.LentTableLaws.{no_facility_lem, many_facilities, many_clients, opening_short, service_short, opening_high, entries_tell, all_openings, high_entries}
 use Rattle.tables.proofs.tables_good.Goals as goal
 
@@ -24,9 +21,6 @@ pub returns-then-opening-m : goal.returns-then-opening-m
 returns-then-opening-m c = let a = c.args in
     sym (opening_short a.m a.n a.opening.now a.service.now c.if-m-lt1.false c.if-m-gt-MOST_FACILITIES.false c.if-n-gt-MOST_CLIENTS.false c.if-opening-m.true)
 
-pub overflow_mul-n : goal.overflow_mul-n
-overflow_mul-n c = omega (arith, few_places c.args.m c.args.n c.if-m-gt-MOST_FACILITIES.false c.if-n-gt-MOST_CLIENTS.false)
-
 pub returns-then-service-n : goal.returns-then-service-n
 returns-then-service-n c = let a = c.args in
     sym (service_short a.m a.n a.opening.now a.service.now c.if-m-lt1.false c.if-m-gt-MOST_FACILITIES.false c.if-n-gt-MOST_CLIENTS.false c.if-opening-m.false c.if-service-n.true)
@@ -34,10 +28,6 @@ returns-then-service-n c = let a = c.args in
 pub returns-then-not-openings_within : goal.returns-then-not-openings_within
 returns-then-not-openings_within c = let a = c.args in
     sym (opening_high a.m a.n a.opening.now a.service.now c.if-m-lt1.false c.if-m-gt-MOST_FACILITIES.false c.if-n-gt-MOST_CLIENTS.false c.if-opening-m.false c.if-service-n.false (said_no (c.openings_within.ensures ∙ all_openings a.opening.now a.m c.if-opening-m.false) c.if-not-openings_within.true))
-
-pub high_count-requires : goal.high_count-requires
-high_count-requires c = let few = few_places c.args.m c.args.n c.if-m-gt-MOST_FACILITIES.false c.if-n-gt-MOST_CLIENTS.false in
-    omega (arith, length-take-le (c.args.n * c.args.m) c.args.service.now c.if-service-n.false)
 
 pub returns : goal.returns
 returns c = let a = c.args in

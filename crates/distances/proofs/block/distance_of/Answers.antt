@@ -1,10 +1,10 @@
--- `block::distance_of` meets its contract: the arms of the `match` are the cases of `distance_of`.
+-- `block::distance_of` meets its contract: a haul and any other record are the cases of `distance_of`.
 use mathlib.Core.Path.{sym}
 use Rattle.distances.proofs.ReachLaws.{distance_haul, distance_other}
 use Rattle.distances.proofs.block.distance_of.Goals as goal
 
-pub returns-in-72 : goal.returns-in-72
-returns-in-72 c = sym (distance_haul _ c.in-72.is)
+pub returns-then-held : goal.returns-then-held
+returns-then-held c = sym (distance_haul _ c.if-held.true)
 
-pub returns-in_default : goal.returns-in_default
-returns-in_default c = sym (distance_other _ c.in_default.in_default-own.rest.1)
+pub returns-else-held : goal.returns-else-held
+returns-else-held c = sym (distance_other _ c.if-held.false)

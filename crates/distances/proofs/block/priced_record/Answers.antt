@@ -3,8 +3,8 @@ use mathlib.Core.Path.{sym}
 use Rattle.distances.proofs.PricedLaws.{priced_haul, priced_other}
 use Rattle.distances.proofs.block.priced_record.Goals as goal
 
-pub returns-in-72 : goal.returns-in-72
-returns-in-72 c = sym (priced_haul _ _ c.in-72.is)
+pub returns-then-is_haul : goal.returns-then-is_haul
+returns-then-is_haul c = sym (priced_haul _ _ c.if-is_haul.true)
 
-pub returns-in_default : goal.returns-in_default
-returns-in_default c = sym (priced_other _ _ c.in_default.in_default-own.rest.1)
+pub returns-else-is_haul : goal.returns-else-is_haul
+returns-else-is_haul c = sym (priced_other _ _ c.if-is_haul.false)

@@ -4,4 +4,4 @@ use Rattle.engine.proofs.DescentLaws.{Cheapest}
 use Rattle.engine.proofs.descent.cheapest.Given as goal
 
 abbrev pub invariant-loop-i : goal.invariant-loop-i
-invariant-loop-i l = Cheapest (table_cost l.service.m l.service.n l.opening l.service.costs.now) l.b l.i
+invariant-loop-i l = Cheapest (table_cost l.tables.service.m l.tables.service.n l.tables.opening.now l.tables.service.costs.now) l.b l.i

@@ -11,22 +11,22 @@ shared_ref_as_front-openings_of c = omega (arith, part_room c.args.set c.members
 
 pub openings_of-opened-requires : goal.openings_of-opened-requires
 openings_of-opened-requires c = let a = c.args in
-    listed_within a.service.m a.service.n a.opening.now a.service.costs.now (record { set = a.set; cost = 0 }) a.kept.now c.requires.0 c.requires.1 _ (part_listed a.set c.members_of-members.result c.members_of-members.ensures)
+    listed_within a.tables.service.m a.tables.service.n a.tables.opening.now a.tables.service.costs.now (record { set = a.set; cost = 0 }) a.kept.now c.requires a.tables.openings _ (part_listed a.set c.members_of-members.result c.members_of-members.ensures)
 
 pub nearest_costs-requires : goal.nearest_costs-requires
-nearest_costs-requires c = let sums = c.requires.0.sums in
-    firsts_within c.args.service.n _ sums.rows.few_clients (omega (arith, sums.room, sums.rows.few_clients)) (λ j l. le_trans (sums.ordered j l) (sums.within j l))
+nearest_costs-requires c = let sums = c.requires.sums in
+    firsts_within c.args.tables.service.n _ sums.rows.few_clients (omega (arith, sums.room, sums.rows.few_clients)) (λ j l. le_trans (sums.ordered j l) (sums.within j l))
 
 pub overflow_add-result : goal.overflow_add-result
 overflow_add-result c = let a = c.args in
     omega (
       arith,
-      cost_now a.service.m a.service.n a.opening.now a.service.costs.now a.set a.kept.now c.requires.0 _ _
-          (openings_are a.service.m a.service.n a.opening.now a.service.costs.now (record { set = a.set; cost = 0 }) a.kept.now c.requires.0 c.requires.1 _ (part_listed a.set c.members_of-members.result c.members_of-members.ensures) _ c.openings_of-opened.ensures) c.nearest_costs.ensures,
-      cost_few a.service.m a.service.n a.opening.now a.service.costs.now a.set a.kept.now c.requires.0 c.requires.1,
+      cost_now a.tables.service.m a.tables.service.n a.tables.opening.now a.tables.service.costs.now a.set a.kept.now c.requires _ _
+          (openings_are a.tables.service.m a.tables.service.n a.tables.opening.now a.tables.service.costs.now (record { set = a.set; cost = 0 }) a.kept.now c.requires a.tables.openings _ (part_listed a.set c.members_of-members.result c.members_of-members.ensures) _ c.openings_of-opened.ensures) c.nearest_costs.ensures,
+      cost_few a.tables.service.m a.tables.service.n a.tables.opening.now a.tables.service.costs.now a.set a.kept.now c.requires a.tables.openings,
     )
 
 pub returns : goal.returns
 returns c = let a = c.args in
-    cost_now a.service.m a.service.n a.opening.now a.service.costs.now a.set a.kept.now c.requires.0 _ _
-    (openings_are a.service.m a.service.n a.opening.now a.service.costs.now (record { set = a.set; cost = 0 }) a.kept.now c.requires.0 c.requires.1 _ (part_listed a.set c.members_of-members.result c.members_of-members.ensures) _ c.openings_of-opened.ensures) c.nearest_costs.ensures
+    cost_now a.tables.service.m a.tables.service.n a.tables.opening.now a.tables.service.costs.now a.set a.kept.now c.requires _ _
+    (openings_are a.tables.service.m a.tables.service.n a.tables.opening.now a.tables.service.costs.now (record { set = a.set; cost = 0 }) a.kept.now c.requires a.tables.openings _ (part_listed a.set c.members_of-members.result c.members_of-members.ensures) _ c.openings_of-opened.ensures) c.nearest_costs.ensures

@@ -9,8 +9,8 @@ use Rattle.engine.proofs.DescentLaws.{Going}
 use Rattle.engine.proofs.descent.descend.Given as goal
 
 abbrev pub invariant-loop-neighbourhood : goal.invariant-loop-neighbourhood
-invariant-loop-neighbourhood l = Going (table_cost l.service.m l.service.n l.opening l.service.costs.now) (neighbours_by l.neighbourhood l.service.m) l.limit l.start l.b l.moves
-    × KeptOf l.service.m l.service.n l.service.costs.now l.b.set l.kept × (length l.kept ≡ length l.initial.kept)
+invariant-loop-neighbourhood l = Going (table_cost l.tables.service.m l.tables.service.n l.tables.opening.now l.tables.service.costs.now) (neighbours_by l.neighbourhood l.tables.service.m) l.limit l.start l.b l.moves
+    × KeptOf l.tables.service.m l.tables.service.n l.tables.service.costs.now l.b.set l.kept × (length l.kept ≡ length l.initial.kept)
 
 abbrev pub decreases-loop-neighbourhood : goal.decreases-loop-neighbourhood
 decreases-loop-neighbourhood l = l.b.cost

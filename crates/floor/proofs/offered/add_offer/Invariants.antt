@@ -6,4 +6,6 @@ use Rattle.floor.specs.Offered.{SumOf}
 use Rattle.floor.proofs.offered.add_offer.Given as goal
 
 abbrev pub invariant-loop-yard : goal.invariant-loop-yard
-invariant-loop-yard l = (8 * l.m ≤ length l.hauls) × ChangedTo (SumOf l.sheet l.m l.offers l.farm) (SumOf l.sheet l.m l.offers (l.farm + 1)) l.m l.yard l.excess
+invariant-loop-yard l = let s = l.sheet in
+    (8 * s.yards ≤ length l.hauls)
+    × ChangedTo (SumOf s.bytes.now s.yards l.offers l.farm) (SumOf s.bytes.now s.yards l.offers (l.farm + 1)) s.yards l.yard l.excess

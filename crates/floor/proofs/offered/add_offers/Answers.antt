@@ -5,10 +5,10 @@ use Rattle.floor.proofs.OfferedLaws.{all_offers}
 use Rattle.floor.proofs.offered.add_offers.Goals as goal
 
 pub loop-farm-init : goal.loop-farm-init
-loop-farm-init c = (c.requires.3, summed_none _)
+loop-farm-init c = (c.requires.2, summed_none _)
 
 pub add_offer-sum-requires : goal.add_offer-sum-requires
-add_offer-sum-requires c = (c.requires.0, c.requires.1, omega arith, c.loop-farm-test.true, c.loop-farm.invariant.0)
+add_offer-sum-requires c = (c.requires.0, omega arith, c.loop-farm-test.true, c.loop-farm.invariant.0)
 
 pub loop-farm-preserved : goal.loop-farm-preserved
 loop-farm-preserved c = let added = c.add_offer-sum.ensures in
@@ -16,6 +16,6 @@ loop-farm-preserved c = let added = c.add_offer-sum.ensures in
 
 pub returns : goal.returns
 returns c = let l = c.loop-farm in
-    let e : l.farm ≡ c.args.n = omega arith in
+    let e : l.farm ≡ c.args.sheet.farms = omega arith in
     let all = l.invariant.0 in
     record { sum = rw e at l.invariant.1.exact ∙ all_offers _ _ _ _; excess = rw e at all }

@@ -4,4 +4,5 @@ use Rattle.floor.specs.Offered.{farm_offer, Offered}
 use Rattle.floor.proofs.offered.add_offers.Given as goal
 
 abbrev pub invariant-loop-farm : goal.invariant-loop-farm
-invariant-loop-farm l = Offered l.sheet l.m l.offers l.farm l.excess × Summed (farm_offer l.sheet l.m l.offers) l.sum l.farm
+invariant-loop-farm l = let s = l.sheet in
+    Offered s.bytes.now s.yards l.offers l.farm l.excess × Summed (farm_offer s.bytes.now s.yards l.offers) l.sum l.farm

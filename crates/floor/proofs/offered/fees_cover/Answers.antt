@@ -8,12 +8,12 @@ pub loop-yard-init : goal.loop-yard-init
 loop-yard-init c = all_none _
 
 pub returns-then-fee-excess : goal.returns-then-fee-excess
-returns-then-fee-excess c = sym (all_stops _ _ c.loop-yard.yard (omega arith) (not_covered _ _ _ _ (omega arith) c.at-fee.ensures c.if-fee-excess.true))
+returns-then-fee-excess c = sym (all_stops _ _ c.loop-yard.yard (omega arith) (not_covered _ _ _ _ (c.fee.ensures.fee c.loop-yard-test.true) c.if-fee-excess.true))
 
 pub loop-yard-preserved : goal.loop-yard-preserved
-loop-yard-preserved c = all_more _ _ c.loop-yard.invariant (is_covered _ _ _ _ (omega arith) c.at-fee.ensures c.if-fee-excess.false)
+loop-yard-preserved c = all_more _ _ c.loop-yard.invariant (is_covered _ _ _ _ (c.fee.ensures.fee c.loop-yard-test.true) c.if-fee-excess.false)
 
 pub returns : goal.returns
 returns c = let l = c.loop-yard in
-    let e : l.yard ≡ c.args.m = omega arith in
+    let e : l.yard ≡ c.args.sheet.yards = omega arith in
     rw e at l.invariant

@@ -6,4 +6,4 @@ use Rattle.floor.specs.Offered.{covered_at}
 use Rattle.floor.proofs.offered.fees_cover.Given as goal
 
 abbrev pub invariant-loop-yard : goal.invariant-loop-yard
-invariant-loop-yard l = true ≡ all_below l.yard (covered_at l.sheet l.excess)
+invariant-loop-yard l = true ≡ all_below l.yard (covered_at l.sheet.bytes.now l.excess)

@@ -31,5 +31,5 @@ returns c = let o = c.args.open in
     let put = put_one _ _ _ _ (record_of 0x41 r.yard c.args.farm byte.result r.haul) c.requires.1 c.new-record.ensures c.put.ensures in
     let same = told_or c.nearest_listed.result r c.unwrap_or-near.ensures in
     let nearest_is = c.nearest_listed.ensures ∙ farm_listed _ _ _ _ o.sheet.shape c.requires.0 _ _ _ c.hauls.ensures o.listed in
-    let is = farm_from_lem _ _ _ _ o.sheet.shape _ c.requires.0 _ _ _ _ c.hauls.ensures nearest_is byte.ensures c.loads_of.ensures in
+    let is = farm_from_lem _ _ _ _ o.sheet.shape _ c.requires.0 _ _ _ _ c.hauls.ensures nearest_is (byte.ensures.loads c.requires.0) c.loads_of.ensures in
     record { exact = rw same.1 is.0; small = small; area = put ∙ ap (splice _ _) (rw (same.0, same.1) is.1) }

@@ -16,7 +16,7 @@ parts c = elim c.match-end.branch [
 
 pub overflow_cast-total : goal.overflow_cast-total
 overflow_cast-total c = let a = c.args in
-    record { fits = cost_small a.kind a.sheet.now a.m a.n c.requires.0 _ _ ((parts c).cost_is _ c.requires.2) }
+    record { fits = cost_small a.kind _ _ _ a.sheet.read _ _ ((parts c).cost_is _ c.requires.1) }
 
 pub returns-in-Stopped-end : goal.returns-in-Stopped-end
 returns-in-Stopped-end c = let a = c.args in
@@ -25,7 +25,7 @@ returns-in-Stopped-end c = let a = c.args in
       | in-Settled w ↦ w.end-is ∙ sym w.in-Settled.is
       | in-Stopped w ↦ w.end-is ∙ sym w.in-Stopped.is
     ] in
-    let told = writes_end a.kind a.sheet.now a.m a.n c.requires.0 _ _ (of.cost_is _ c.requires.2) a.area.now _ _ _ c.requires.1
+    let told = writes_end a.kind _ _ _ a.sheet.read _ _ (of.cost_is _ c.requires.1) a.area.now _ _ _ c.requires.0
     c.write_plan-bytes.ensures.bytes c.write_plan-bytes.ensures.area (outcome_of a.end) of.set_is of.moves_are
     true (ap (λ (x : Found). (outcome_of x).stopped) (sym same ∙ c.in-Stopped-end.is)) in
     record { answer = told.0; area = told.1 }
@@ -37,6 +37,6 @@ returns-in_default c = let a = c.args in
       | in-Settled w ↦ ap (λ (x : Found). (outcome_of x).stopped) w.in-Settled.is
       | in-Stopped w ↦ absurd (c.in_default.not-Stopped _ _ _ w.end-is)
     ] in
-    let told = writes_end a.kind a.sheet.now a.m a.n c.requires.0 _ _ (of.cost_is _ c.requires.2) a.area.now _ _ _ c.requires.1
+    let told = writes_end a.kind _ _ _ a.sheet.read _ _ (of.cost_is _ c.requires.1) a.area.now _ _ _ c.requires.0
     c.write_plan-bytes.ensures.bytes c.write_plan-bytes.ensures.area (outcome_of a.end) of.set_is of.moves_are false settled in
     record { answer = told.0; area = told.1 }

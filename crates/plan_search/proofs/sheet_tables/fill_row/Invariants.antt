@@ -5,4 +5,4 @@ use Rattle.plan_search.specs.SheetTables.{Holds, scaled_haul}
 use Rattle.plan_search.proofs.sheet_tables.fill_row.Given as goal
 
 abbrev pub invariant-loop-a : goal.invariant-loop-a
-invariant-loop-a l = Holds (scaled_haul l.factor l.sheet l.m) (l.farm * l.m + l.a) l.table
+invariant-loop-a l = let s = l.sheet.counted in Holds (scaled_haul l.factor s.bytes.now s.yards) (l.farm * s.yards + l.a) l.table

@@ -4,4 +4,4 @@ use Rattle.plan_search.specs.SheetTables.{Holds, scaled_haul}
 use Rattle.plan_search.proofs.sheet_tables.fill_rows.Given as goal
 
 abbrev pub invariant-loop-farm : goal.invariant-loop-farm
-invariant-loop-farm l = Holds (scaled_haul l.factor l.sheet l.m) (l.farm * l.m) l.table
+invariant-loop-farm l = let s = l.sheet.counted in Holds (scaled_haul l.factor s.bytes.now s.yards) (l.farm * s.yards) l.table

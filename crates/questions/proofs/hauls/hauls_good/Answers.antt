@@ -2,7 +2,6 @@
 use mathlib.Core.Path.{◌≡◌, sym, ◌∙◌}
 use native.Mathlib.Omega.{arith}
 use Prim.Native.Nat.{◌*◌}
-use Rattle.model.proofs.PlaceLaws.{few_places}
 use Rattle.questions.specs.Sheet.{yards, hauls, farms}
 use Rattle.questions.proofs.QuestionLaws.{no_farms, many_farms, uneven, even}
 use Rattle.questions.proofs.FormLaws.{yards_le, hauls_are}
@@ -17,14 +16,8 @@ returns-then-n-gt-MOST_FARMS c = sym (many_farms _ (omega arith) (omega arith))
 pub overflow_sub-sheet : goal.overflow_sub-sheet
 overflow_sub-sheet c = omega (arith, yards_le c.args.sheet.now)
 
-pub overflow_mul-n : goal.overflow_mul-n
-overflow_mul-n c = omega (arith, few_places c.args.m c.args.n c.requires.2 (omega arith))
-
 pub returns-then-sheet-m : goal.returns-then-sheet-m
 returns-then-sheet-m c = sym (uneven _ (λ e. c.if-sheet-m.true (rw (c.requires.0, c.requires.1) (sym (hauls_are c.args.sheet.now) ∙ e))))
-
-pub farms_in_place-requires : goal.farms_in_place-requires
-farms_in_place-requires c = (omega (arith, yards_le c.args.sheet.now), omega arith)
 
 pub returns : goal.returns
 returns c = let e : hauls c.args.sheet.now ≡ farms c.args.sheet.now * yards c.args.sheet.now =

@@ -2,7 +2,6 @@
 use mathlib.Core.Path.{refl, sym, subst}
 use native.Mathlib.Omega.{arith}
 use Rattle.model.proofs.Bools.{said_no, said_yes}
-use Rattle.model.proofs.PlaceLaws.{few_places}
 use Rattle.questions.proofs.QuestionLaws.{right_length}
 use Rattle.questions.proofs.FormLaws.{yards_le}
 use Rattle.sheet.specs.OnePass.{Told}
@@ -34,10 +33,6 @@ returns-then-farms-lt1 c = bad_farms _ _ c.in_ok-yards.ensures _ refl (λ good. 
 
 pub returns-then-farms-gt-MOST_FARMS : goal.returns-then-farms-gt-MOST_FARMS
 returns-then-farms-gt-MOST_FARMS c = bad_farms _ _ c.in_ok-yards.ensures _ refl (λ good. omega (arith, good.1, c.if-farms-gt-MOST_FARMS.true))
-
-pub overflow_mul-farms : goal.overflow_mul-farms
-overflow_mul-farms c = let s = c.args.sheet.now in
-    omega (arith, few_places _ _ (yards_counted s _ c.in_ok-yards.ensures c.if-yards-lt1.false).1 c.if-farms-gt-MOST_FARMS.false)
 
 pub returns-then-hauls-farms : goal.returns-then-hauls-farms
 returns-then-hauls-farms c = left_over _ _ c.in_ok-yards.ensures _ refl c.if-hauls-farms.true

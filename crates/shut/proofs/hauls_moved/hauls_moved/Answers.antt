@@ -20,18 +20,20 @@ shared_ref_as_front-others c = part_small _ _ _ c.members_below-left.ensures
 pub slice_bounds-others-end : goal.slice_bounds-others-end
 slice_bounds-others-end c = part_length _ _ _ c.members_below-left.ensures
 
-pub farm_moved-moved-requires : goal.farm_moved-moved-requires
-farm_moved-moved-requires c = let few = c.requires.few_yards in
-    (c.requires, part_numbers _ _ _ c.members_below-open.ensures few, part_numbers _ _ _ c.members_below-left.ensures few ∙ ap (rising_below c.args.m) c.removed.ensures, c.loop-farm-test.true)
+pub invariant_of-shut : goal.invariant_of-shut
+invariant_of-shut c = let few = c.args.sheet.shape.few_yards in record {
+  listed = part_numbers _ _ _ c.members_below-open.ensures few;
+  left = part_numbers _ _ _ c.members_below-left.ensures few ∙ ap (rising_below c.args.sheet.yards) c.removed.ensures;
+}
 
 pub overflow_add-there : goal.overflow_add-there
 overflow_add-there c = record {
-  fits = omega (arith, c.loop-farm.invariant.there_so_far.small, c.farm_moved-moved.ensures.small.0, c.requires.few_farms);
+  fits = omega (arith, c.loop-farm.invariant.there_so_far.small, c.farm_moved-moved.ensures.small.0, c.args.sheet.shape.few_farms);
 }
 
 pub overflow_add-elsewhere : goal.overflow_add-elsewhere
 overflow_add-elsewhere c = record {
-  fits = omega (arith, c.loop-farm.invariant.elsewhere_so_far.small, c.farm_moved-moved.ensures.small.1, c.requires.few_farms);
+  fits = omega (arith, c.loop-farm.invariant.elsewhere_so_far.small, c.farm_moved-moved.ensures.small.1, c.args.sheet.shape.few_farms);
 }
 
 pub loop-farm-preserved : goal.loop-farm-preserved

@@ -1,15 +1,9 @@
 use mathlib.Core.Path.{◌≡◌, refl, sym, subst, ◌∙◌}
 use native.Mathlib.Omega.{arith}
 use Rattle.tariff.specs.House.{house}
-use Rattle.tariff.proofs.MakingLaws.{Made, made_none, may_follow, made_more, made_prices, line_begins}
+use Rattle.tariff.proofs.MakingLaws.{Made, made_more, made_prices, line_begins}
 use Rattle.tariff.proofs.HouseLaws.{house_allowed, start_is}
 use Rattle.tariff.proofs.house.house_tariff.Goals as goal
-
-pub loop-i-init : goal.loop-i-init
-loop-i-init c = made_none _ _ c.without_bands-tariff.ensures
-
-pub with_band-tariff-requires : goal.with_band-tariff-requires
-with_band-tariff-requires c = may_follow house house_allowed _ _ _ (omega arith) refl (start_is _ (omega arith))
 
 pub loop-i-preserved : goal.loop-i-preserved
 loop-i-preserved c = subst (Made house _) (sym c.with_band-tariff.ensures) (made_more house house_allowed _ _ _ _ (omega arith) refl (start_is _ (omega arith)) c.loop-i.invariant)

@@ -5,16 +5,16 @@ use Rattle.tariff.proofs.reading.in_place.Goals as goal
 
 pub returns-then-band-start : goal.returns-then-band-start
 unfolding in_place
-returns-then-band-start c = rw (eq-eqb _ _ c.if-held-eq-KIND_BAND.true, eq-eqb _ _ c.if-held-i.true, eq-eqb _ _ c.if-band-start.true)
+returns-then-band-start c = rw (eq-eqb _ _ c.if-held.true, eq-eqb _ _ c.if-held-i.true, eq-eqb _ _ c.if-band-start.true)
 
 pub returns-else-band-start : goal.returns-else-band-start
 unfolding in_place
-returns-else-band-start c = rw (eq-eqb _ _ c.if-held-eq-KIND_BAND.true, eq-eqb _ _ c.if-held-i.true, ne_eqb _ _ c.if-band-start.false)
+returns-else-band-start c = rw (eq-eqb _ _ c.if-held.true, eq-eqb _ _ c.if-held-i.true, ne_eqb _ _ c.if-band-start.false)
 
 pub returns-else-held-i : goal.returns-else-held-i
 unfolding in_place
-returns-else-held-i c = rw (eq-eqb _ _ c.if-held-eq-KIND_BAND.true, ne_eqb _ _ c.if-held-i.false)
+returns-else-held-i c = rw (eq-eqb _ _ c.if-held.true, ne_eqb _ _ c.if-held-i.false)
 
-pub returns-else-held-eq-KIND_BAND : goal.returns-else-held-eq-KIND_BAND
+pub returns-else-held : goal.returns-else-held
 unfolding in_place
-returns-else-held-eq-KIND_BAND c = rw (ne_eqb _ _ c.if-held-eq-KIND_BAND.false)
+returns-else-held c = rw (ne_eqb _ _ c.if-held.false)

@@ -10,8 +10,5 @@ returns-then-not-bands_good c = rw (refused_11 _ (said_no c.bands_good.ensures c
 pub returns-then-not-rates_good : goal.returns-then-not-rates_good
 returns-then-not-rates_good c = rw (refused_12 _ (said_yes c.bands_good.ensures c.if-not-bands_good.false) (said_no c.rates_good.ensures c.if-not-rates_good.true)) refl
 
-pub tariff_of-requires : goal.tariff_of-requires
-tariff_of-requires c = (said_yes c.bands_good.ensures c.if-not-bands_good.false, said_yes c.rates_good.ensures c.if-not-rates_good.false)
-
 pub returns : goal.returns
 returns c = rw (accepts_tariff _ (said_yes c.bands_good.ensures c.if-not-bands_good.false) (said_yes c.rates_good.ensures c.if-not-rates_good.false)) c.tariff_of.ensures

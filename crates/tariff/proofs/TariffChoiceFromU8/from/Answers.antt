@@ -1,7 +1,7 @@
--- `choice_of` meets its contract: the arms of the `match` are the cases of `choice_of`.
+-- The conversion meets its contract: the arms of the `match` are the cases of `choice_of`.
 use borrow.Author.Tests.{ne_eqb}
-use Rattle.numbers.specs.Numbers.{choice_of}
-use Rattle.numbers.proofs.choice_of.Goals as goal
+use Rattle.tariff.specs.Choices.{choice_of}
+use Rattle.tariff.proofs.TariffChoiceFromU8.from.Goals as goal
 
 pub returns-in-0 : goal.returns-in-0
 unfolding choice_of

@@ -2,7 +2,7 @@
 use Rattle.std.specs.Prelude.{ℕ}
 use Rattle.model.specs.Instance.{Instance}
 use Rattle.questions.specs.Sheet.{farm_byte, instance_by}
-use Rattle.plan_area.specs.declared.counted_sheet.CountedSheet.{CountedSheet}
+use Rattle.stretch.specs.declared.counted_sheet.CountedSheet.{CountedSheet}
 
 -- its instance
 abbrev pub instance_on : CountedSheet → Instance
