@@ -68,8 +68,12 @@ module _ (choice : TariffChoice) (tariff s : List ℕ) (room : ℕ) (enough : mo
   sheet_is q e = sym (ap (λ q. sheet_told q s lent) e) ∙ told ∙ enough_room choice tariff s room enough
 
   module _ {A : Type 0} (call : List ℕ → Answer A) where
+    -- on the sheet as written any call, whatever it asks first
+    pub as_written : r ≡ Ok AsWritten → call s ≡ after (sheet_by choice tariff s) call
+    as_written e = ap (λ a. after a call) (sheet_is (Ok AsWritten) e)
+
     pub as_told : FormFirst call → (h : HaulSheet) → r ≡ Ok h → call (sheet_within h s lent) ≡ after (sheet_by choice tariff s) call
-    as_told first AsWritten e = ap (λ a. after a call) (sheet_is (Ok AsWritten) e)
+    as_told first AsWritten e = as_written e
     as_told first (Priced bytes) e = formed_call call first (take bytes lent) ∙ ap (λ a. after a call) (sheet_is (Ok (Priced bytes)) e)
 
     pub as_refused : (refusal : Refusal) → r ≡ Err refusal → refused (number_of refusal) ≡ after (sheet_by choice tariff s) call

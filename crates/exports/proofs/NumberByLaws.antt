@@ -9,12 +9,10 @@ use Rattle.questions.specs.Sheet.{instance_of}
 use Rattle.questions.specs.Reading.{reading}
 use Rattle.tariff.specs.declared.TariffChoice.{TariffChoice}
 use Rattle.distances.specs.Priced.{sheet_by, reading_by, OnHauls}
-use Rattle.refusal.specs.Numbers.{answer_of}
+use Rattle.refusal.specs.Numbers.{answer_by}
 use Rattle.price.specs.Pricing.{Plan, answer, area_after, OfPlan, pricing}
 use Rattle.price_by.specs.PricingBy.{pricing_by}
 use Rattle.std.specs.Prelude.{Result}
-use Rattle.refusal.specs.declared.Refusal.{Refusal}
-use Rattle.refusal.specs.Numbers.{answer_of}
 use Rattle.price.specs.declared.Written.{Written}
 use Rattle.price.proofs.OfPlanLaws.{priced_set}
 use Rattle.price_by.proofs.PricingByLaws.{priced_on_hauls}
@@ -66,9 +64,10 @@ module _ (choice : TariffChoice) (tariff s : List ℕ) where
 
   -- ---- what is promised of a plan is promised of the bytes that the number tells
 
-  pub of_written_by : (r : ℕ) (area : List ℕ) (P : List ℕ → ℕ → Type 0) (p : Result Written Refusal) → KeepsBits (answer_of p) → r ≡ result_number (answer_of p)
+  pub of_written_by : {E : Type 0} (r : ℕ) (area : List ℕ) (P : List ℕ → ℕ → Type 0) (number : E → ℕ) (p : Result Written E) → KeepsBits (answer_by number p)
+      → r ≡ result_number (answer_by number p)
       → OnHauls (sheet_by choice tariff s) (λ h. OfPlan p area (P h)) → OnHauls (sheet_by choice tariff s) (λ h. OfWritten r area (P h))
-  of_written_by r area P p within e made h is = of_written r area (P h) p within e (made h is)
+  of_written_by r area P number p within e made h is = of_written r area (P h) number p within e (made h is)
 
   -- ---- and is used: what is promised by the number of an accepted call holds, on the sheet of hauls, of its plan's own set
 

@@ -96,7 +96,7 @@ sum_fits s offers sum e =
 
 -- ---- from the promise
 
-module _ (s : List ℕ) (sum : ℕ) (under : UnderAll s (Ok sum)) where
+module _ {E : Type 0} (s : List ℕ) (sum : ℕ) (under : UnderAll {E = E} s (Ok sum)) where
   -- where pricing writes a plan, its total is no lower
   pub under_prices : (set room : ℕ) (p : Plan) → pricing s set room ≡ accepted p
       → (total : ℕ) × (p ≡ plan (instance_of s) (farm_byte s (yards s)) set total 0) × (sum ≤ total)

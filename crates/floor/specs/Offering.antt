@@ -10,7 +10,6 @@ use Rattle.record.specs.Records.{records, record_of, record_at, amount_at}
 use Rattle.questions.specs.Bounds.{yard_kind}
 use Rattle.questions.specs.Sheet.{yards, instance_of}
 use Rattle.questions.specs.Reading.{reading}
-use Rattle.refusal.specs.declared.Refusal.{Refusal}
 
 -- "records of kind 56 hex by farm"
 abbrev pub offer_kind : ℕ
@@ -38,7 +37,7 @@ offering s offers =
     (accepted (floor (instance_of s) (amount_at offers)))))
 
 -- "which is no more than the full cost of any non-empty set"
-abbrev pub UnderAll : List ℕ → Result ℕ Refusal → Type 0
+abbrev pub UnderAll : {E : Type 0} → List ℕ → Result ℕ E → Type 0
 UnderAll s r =
     (sum : ℕ) → r ≡ Ok sum → (rival : ℕ → Bool) → any (yards s) rival ≡ true → sum ≤ total_cost (instance_of s) rival
 

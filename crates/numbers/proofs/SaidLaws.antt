@@ -14,8 +14,7 @@ use Rattle.questions.specs.declared.Counts.{Counts}
 use Rattle.nearest.specs.Nearest.{Nearest, near}
 use Rattle.plan_area.specs.Plan.{plan_set}
 use Rattle.price.specs.declared.Written.{Written}
-use Rattle.refusal.specs.declared.Refusal.{Refusal}
-use Rattle.refusal.specs.Numbers.{answer_of}
+use Rattle.refusal.specs.Numbers.{answer_by}
 use Rattle.price.specs.Pricing.{written, Plan, answer, area_after, OfPlan}
 use Rattle.price.proofs.OfPlanLaws.{PlanOf, set_read_off}
 use Rattle.shut.specs.Shutting.{IsDifference}
@@ -104,12 +103,13 @@ sum_said (refused k) (some, small) = (omega arith, some)
 -- ---- what is promised of a plan is promised of the bytes that the number tells
 
 module _ (r : ℕ) (area : List ℕ) (P : ℕ → Type 0) where
-  pub of_written : (p : Result Written Refusal) → KeepsBits (answer_of p) → r ≡ result_number (answer_of p) → OfPlan p area P → OfWritten r area P
-  of_written (Ok w) within e h accepts =
-      let told : bytes_written r ≡ w.bytes = ap bytes_written e ∙ (said (answer_of (Ok w)) within).1 in
+  pub of_written : {E : Type 0} (number : E → ℕ) (p : Result Written E) → KeepsBits (answer_by number p) → r ≡ result_number (answer_by number p) → OfPlan p area P
+      → OfWritten r area P
+  of_written number (Ok w) within e h accepts =
+      let told : bytes_written r ≡ w.bytes = ap bytes_written e ∙ (said (accepted w) within).1 in
       subst (λ b. P (plan_set area b)) (sym told) (h w refl)
-  of_written (Err refused_by) within e h accepts =
-      absurd (omega (arith, sym (said (answer_of (Err refused_by)) within).0 ∙ sym (ap refusal e) ∙ accepts, within.0))
+  of_written number (Err unplanned) within e h accepts =
+      absurd (omega (arith, sym (said (refused (number unplanned)) within).0 ∙ sym (ap refusal e) ∙ accepts, within.0))
 
 -- ---- and is used: what is promised by the number of an accepted call holds of its plan's own set
 
@@ -124,17 +124,33 @@ module _ (outcome : Answer Plan) (p : Plan) (e : outcome ≡ accepted p) (bits :
 
 -- ---- what is promised of a change is promised of the one that the number tells
 
-pub difference_told : (s : List ℕ) (set yard r : ℕ) (c : Result ℤ Refusal) → ChangeKeepsBits (answer_of c) → r ≡ change_number (answer_of c) → IsDifference s set yard c
-    → DifferenceTold s set yard r
-difference_told s set yard r (Ok cents) within e h accepts =
+pub difference_told : {E : Type 0} (s : List ℕ) (set yard r : ℕ) (number : E → ℕ) (c : Result ℤ E) → ChangeKeepsBits (answer_by number c)
+    → r ≡ change_number (answer_by number c) → IsDifference s set yard c → DifferenceTold s set yard r
+difference_told s set yard r number (Ok cents) within e h accepts =
     ap change_told e ∙ (change_said (accepted cents) within).1 ∙ h cents refl
-difference_told s set yard r (Err refused_by) within e h accepts =
-    absurd (omega (arith, sym (change_said (answer_of (Err refused_by)) within).0 ∙ sym (ap refusal e) ∙ accepts, within.0))
+difference_told s set yard r number (Err unpriced) within e h accepts =
+    absurd (omega (arith, sym (change_said (refused (number unpriced)) within).0 ∙ sym (ap refusal e) ∙ accepts, within.0))
 
 -- ---- and of a sum
 
-pub under_told : (s : List ℕ) (r : ℕ) (b : Result ℕ Refusal) → SumKeepsBits (answer_of b) → r ≡ sum_number (answer_of b) → UnderAll s b → UnderAllTold s r
-under_told s r (Ok sum) within e under accepts rival some =
+pub under_told : {E : Type 0} (s : List ℕ) (r : ℕ) (number : E → ℕ) (b : Result ℕ E) → SumKeepsBits (answer_by number b) → r ≡ sum_number (answer_by number b)
+    → UnderAll s b → UnderAllTold s r
+under_told s r number (Ok sum) within e under accepts rival some =
     rw (ap sum_told e ∙ (sum_said (accepted sum) within).1) (under sum refl rival some)
-under_told s r (Err refused_by) within e under accepts rival some =
-    absurd (omega (arith, sym (sum_said (answer_of (Err refused_by)) within).0 ∙ sym (ap refusal e) ∙ accepts, within.0))
+under_told s r number (Err unfounded) within e under accepts rival some =
+    absurd (omega (arith, sym (sum_said (refused (number unfounded)) within).0 ∙ sym (ap refusal e) ∙ accepts, within.0))
+
+-- ---- and used where a refusal is a number already, that of a question or not
+
+module _ (r : ℕ) where
+  pub written_numbered : (area : List ℕ) (P : ℕ → Type 0) (p : Result Written ℕ) → KeepsBits (answer_by (λ k. k) p) → r ≡ result_number (answer_by (λ k. k) p)
+      → OfPlan p area P → OfWritten r area P
+  written_numbered area P = of_written r area P (λ k. k)
+
+  pub difference_numbered : (s : List ℕ) (set yard : ℕ) (c : Result ℤ ℕ) → ChangeKeepsBits (answer_by (λ k. k) c) → r ≡ change_number (answer_by (λ k. k) c)
+      → IsDifference s set yard c → DifferenceTold s set yard r
+  difference_numbered s set yard = difference_told s set yard r (λ k. k)
+
+  pub under_numbered : (s : List ℕ) (b : Result ℕ ℕ) → SumKeepsBits (answer_by (λ k. k) b) → r ≡ sum_number (answer_by (λ k. k) b) → UnderAll s b
+      → UnderAllTold s r
+  under_numbered s = under_told s r (λ k. k)

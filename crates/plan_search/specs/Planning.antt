@@ -65,8 +65,8 @@ plan_left (accepted p) = accepted p.plan
 plan_left (refused k) = refused k
 
 -- what holds of the set in the area where the search settled, and where it was stopped
-abbrev pub OfSettled : Result Searched Refusal → List ℕ → (ℕ → Type 0) → Type 0
+abbrev pub OfSettled : {E : Type 0} → Result Searched E → List ℕ → (ℕ → Type 0) → Type 0
 OfSettled r area P = (set bytes moves : ℕ) → r ≡ Ok (Settled set bytes moves) → P (plan_set area bytes)
 
-abbrev pub OfStopped : Result Searched Refusal → List ℕ → (ℕ → Type 0) → Type 0
+abbrev pub OfStopped : {E : Type 0} → Result Searched E → List ℕ → (ℕ → Type 0) → Type 0
 OfStopped r area P = (set bytes moves : ℕ) → r ≡ Ok (Stopped set bytes moves) → P (plan_set area bytes)

@@ -33,8 +33,8 @@ unfoldable pub area_after : Answer Plan → List ℕ → List ℕ
 area_after (accepted p) area = splice area 0 p.bytes
 area_after (refused k) area = area
 
--- what holds of the set in the area, where the call wrote a plan
-abbrev pub OfPlan : Result Written Refusal → List ℕ → (ℕ → Type 0) → Type 0
+-- what holds of the set in the area, where the call wrote a plan, whatever it refuses by
+abbrev pub OfPlan : {E : Type 0} → Result Written E → List ℕ → (ℕ → Type 0) → Type 0
 OfPlan r area P = (w : Written) → r ≡ Ok w → P (plan_set area w.bytes)
 
 -- 8. Does the set, a 32-bit number whose bit i marks yard i, mark at least one yard and none numbered m or above?

@@ -1,6 +1,6 @@
 // The questions put to a sheet: what 1 to 6 and 10 ask (specs/), and the code that asks 1 to 4, the form of a sheet, and 10 one by one.
 //
-// `form_of` and `form_and_loads_of` give the counts of yards and farms or the number of the first "no"; `well_formed` is question 2 of one
+// `form_of` and `form_and_loads_of` give the counts of yards and farms or the refusal by the first "no"; `well_formed` is question 2 of one
 // record, and `loads_of` reads the byte of a farm's loads. All take anything.
 
 #![tactic(auto)]

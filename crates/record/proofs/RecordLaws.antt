@@ -3,14 +3,15 @@
 use Prim.Native.Nat.{ℕ, ◌+◌, ◌-◌, ◌*◌, ◌/◌, ◌%◌, ◌≤◌, ◌<◌}
 use native.Mathlib.Nat.{add-zero}
 use native.Mathlib.Omega.{arith}
-use mathlib.Core.Path.{◌≡◌, sym, ap, ◌∙◌}
-use mathlib.Core.List.{List, ◌++◌, append_assoc}
+use mathlib.Core.Path.{◌≡◌, refl, sym, ap, ◌∙◌}
+use mathlib.Core.List.{List, [], ◌∷◌, ◌++◌, append_assoc}
 use borrow.Author.Tests.{le-leb, lt-leb}
 use lib.ListN.{length, get_or, take, drop, length-drop, get_or-append}
 use borrow.Rule.Slice.PartMut.{put_mid, Post-is}
 use lib.Seq.{get_or-take, get_or-drop, get_or-append-add, length-take-le}
-use Rattle.record.specs.Records.{word, record_of, record_at, whole_record_at, bytes_of, splice, put_at, amount_end, amount_at}
+use Rattle.record.specs.Records.{word, word_bytes, record_of, record_at, whole_record_at, bytes_of, splice, put_at, amount_end, amount_at}
 use Rattle.record.specs.declared.Record.{Record}
+use Rattle.record.proofs.SpliceLaws.{length_splice, splice_turn}
 
 pub whole : (s : List ℕ) (i : ℕ) → 8 * i + 8 ≤ length s → whole_record_at s i ≡ record_at s i
 unfolding whole_record_at
@@ -125,9 +126,20 @@ pub put_not : (area : List ℕ) (at : ℕ) (r : Record) → length area < at + 8
 unfolding put_at
 put_not area at r h = rw (lt-leb (at + 8) (length area) h)
 
--- eight bytes that are copied are a record
-pub put_copied : (area part : List ℕ) (at : ℕ) (r : Record) → at + 8 ≤ length area → part ≡ bytes_of r → put_mid at (at + 8 - at) area part ≡ put_at area at r
-unfolding splice bytes_of
-put_copied area part at r room e =
-    rw (e, Post-is at (at + 8) area (omega arith), put_fits area at r room)
-    (sym (append_assoc (take at area) (bytes_of r) (drop (at + 8) area)))
+-- bytes that are copied are a splice
+copied : (area part : List ℕ) (at end : ℕ) → end ≤ length area → end ≡ at + length part → put_mid at (end - at) area part ≡ splice area at part
+unfolding splice
+copied area part at end room e =
+    rw (Post-is at end area (omega (arith, e)), ← e)
+    (sym (append_assoc (take at area) part (drop end area)))
+
+-- four bytes that are copied, and the amount's behind them, are a record
+pub put_copied : (area front amount : List ℕ) (at : ℕ) (r : Record) → at + 8 ≤ length area → front ≡ r.kind ∷ r.yard ∷ r.farm ∷ r.byte3 ∷ [] → amount ≡ word_bytes r.amount
+    → put_mid (at + 4) (at + 8 - (at + 4)) (put_mid at (at + 4 - at) area front) amount ≡ put_at area at r
+unfolding bytes_of word_bytes
+put_copied area front amount at r room e f =
+    let first : put_mid at (at + 4 - at) area front ≡ splice area at front = copied area front at (at + 4) (omega arith) (rw e refl) in
+    let long : length (splice area at front) ≡ length area = length_splice area at front (rw e (omega arith)) in
+    rw first
+    (copied (splice area at front) amount (at + 4) (at + 8) (omega (arith, long)) (rw f (omega arith))
+    ∙ rw (e, f) (splice_turn area _ at (at + 4) (r.kind ∷ r.yard ∷ r.farm ∷ r.byte3 ∷ []) (word_bytes r.amount) refl refl (omega arith) ∙ sym (put_fits area at r room)))

@@ -59,7 +59,9 @@ impl Record {
             return;
         }
         let [a, b, c, d] = self.amount.to_le_bytes();
-        let bytes = [self.kind, self.yard, self.farm, self.byte3, a, b, c, d];
-        area[at..at + Record::LEN].copy_from_slice(&bytes);
+        // Four bytes and four: eight that are put together first are read back before they are stored, which waits for each.
+        let middle = at + 4;
+        area[at..middle].copy_from_slice(&[self.kind, self.yard, self.farm, self.byte3]);
+        area[middle..at + Record::LEN].copy_from_slice(&[a, b, c, d]);
     }
 }

@@ -8,9 +8,8 @@ use borrow.Author.Tests.{eq-eqb, ne_eqb}
 use Rattle.model.specs.Answers.{Answer, accepted, refused}
 use Rattle.model.proofs.Bools.{clash}
 use Rattle.plan_area.specs.Plan.{plan_set}
-use Rattle.plan_search.specs.Planning.{Told, told, searched_answer, OfSettled, OfStopped}
+use Rattle.plan_search.specs.Planning.{Told, told, searched_by, OfSettled, OfStopped}
 use Rattle.std.specs.Prelude.{Result, Ok, Err}
-use Rattle.refusal.specs.declared.Refusal.{Refusal}
 use Rattle.plan_search.specs.declared.Searched.{Searched}
 use Rattle.plan_search.specs.declared.Searched.TheVariants.{Settled, Stopped}
 use Rattle.numbers.specs.Numbers.{refusal, moves_made}
@@ -42,22 +41,24 @@ search_said (refused k) (some, small) = (omega arith, some)
 -- ---- what is promised of a settled search, and of a stopped one, is promised by the number
 
 module _ (r : ℕ) (area : List ℕ) (P : ℕ → Type 0) where
-  pub where_settled : (x : Result Searched Refusal) → SearchKeepsBits (searched_answer x) → r ≡ searched_number (searched_answer x) → OfSettled x area P → WhereSettled r area P
-  where_settled (Ok (Settled set bytes moves)) within e h accepts stays =
-      let says = search_said (searched_answer (Ok (Settled set bytes moves))) within in
+  pub where_settled : {E : Type 0} (number : E → ℕ) (x : Result Searched E) → SearchKeepsBits (searched_by number x) → r ≡ searched_number (searched_by number x)
+      → OfSettled x area P → WhereSettled r area P
+  where_settled number (Ok (Settled set bytes moves)) within e h accepts stays =
+      let says = search_said (accepted (told false set bytes moves)) within in
       subst (λ b. P (plan_set area b)) (sym (ap bytes_told e ∙ says.2)) (h set bytes moves refl)
-  where_settled (Ok (Stopped set bytes moves)) within e h accepts stays =
-      let says = search_said (searched_answer (Ok (Stopped set bytes moves))) within in
+  where_settled number (Ok (Stopped set bytes moves)) within e h accepts stays =
+      let says = search_said (accepted (told true set bytes moves)) within in
       clash (ap was_stopped e ∙ says.1) stays
-  where_settled (Err refused_by) within e h accepts stays =
-      absurd (omega (arith, sym (search_said (searched_answer (Err refused_by)) within).0 ∙ sym (ap refusal e) ∙ accepts, within.0))
+  where_settled number (Err unsearched) within e h accepts stays =
+      absurd (omega (arith, sym (search_said (refused (number unsearched)) within).0 ∙ sym (ap refusal e) ∙ accepts, within.0))
 
-  pub where_stopped : (x : Result Searched Refusal) → SearchKeepsBits (searched_answer x) → r ≡ searched_number (searched_answer x) → OfStopped x area P → WhereStopped r area P
-  where_stopped (Ok (Settled set bytes moves)) within e h accepts stops =
-      let says = search_said (searched_answer (Ok (Settled set bytes moves))) within in
+  pub where_stopped : {E : Type 0} (number : E → ℕ) (x : Result Searched E) → SearchKeepsBits (searched_by number x) → r ≡ searched_number (searched_by number x)
+      → OfStopped x area P → WhereStopped r area P
+  where_stopped number (Ok (Settled set bytes moves)) within e h accepts stops =
+      let says = search_said (accepted (told false set bytes moves)) within in
       clash stops (ap was_stopped e ∙ says.1)
-  where_stopped (Ok (Stopped set bytes moves)) within e h accepts stops =
-      let says = search_said (searched_answer (Ok (Stopped set bytes moves))) within in
+  where_stopped number (Ok (Stopped set bytes moves)) within e h accepts stops =
+      let says = search_said (accepted (told true set bytes moves)) within in
       subst (λ b. P (plan_set area b)) (sym (ap bytes_told e ∙ says.2)) (h set bytes moves refl)
-  where_stopped (Err refused_by) within e h accepts stops =
-      absurd (omega (arith, sym (search_said (searched_answer (Err refused_by)) within).0 ∙ sym (ap refusal e) ∙ accepts, within.0))
+  where_stopped number (Err unsearched) within e h accepts stops =
+      absurd (omega (arith, sym (search_said (refused (number unsearched)) within).0 ∙ sym (ap refusal e) ∙ accepts, within.0))

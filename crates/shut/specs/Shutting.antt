@@ -40,7 +40,7 @@ shutting s set yard =
     (accepted (closing_change (instance_of s) (member set) yard))))
 
 -- "It equals the full price of the set without the yard less that of the set."
-abbrev pub IsDifference : List ℕ → ℕ → ℕ → Result ℤ Refusal → Type 0
+abbrev pub IsDifference : {E : Type 0} → List ℕ → ℕ → ℕ → Result ℤ E → Type 0
 IsDifference s set yard r =
     (cents : ℤ) → r ≡ Ok cents
     → cents ≡ pos (total_cost (instance_of s) (member (without set yard))) -ℤ pos (total_cost (instance_of s) (member set))

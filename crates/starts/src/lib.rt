@@ -6,10 +6,10 @@
 
 ghost use Rattle.std.specs.Prelude.{◌≡◌};
 ghost use Rattle.refusal.specs.Numbers.{answer_of};
-ghost use Rattle.starts.specs.Starts.{asked_start, engine_start};
+ghost use Rattle.starts.specs.Starts.{asked_start, start_refusal, engine_start};
 
 use engine::Start;
-use refusal::Refusal;
+use refusal::{Numbered, Refusal};
 use sheet::MOST_YARDS;
 
 // At the single yard of least cost, the lowest number among equals, at yards 0 to k - 1, or at a given set, of which bit i marks yard i.
@@ -44,6 +44,16 @@ pub fn ask_start(start: PlanStart, m: usize) -> Result<(), Refusal>
                 Err(Refusal::Set)
             }
         }
+    }
+}
+
+// The number of that question where it is answered no, else 0.
+pub fn start_refusal(start: PlanStart, m: usize) -> u8
+    ensures { result ≡ start_refusal start m }
+{
+    match ask_start(start, m) {
+        Ok(()) => 0,
+        Err(refusal) => refusal.number(),
     }
 }
 

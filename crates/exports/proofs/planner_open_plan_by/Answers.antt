@@ -1,6 +1,7 @@
 -- `planner_open_plan_by` meets its contract: `by_tariff::open_plan_by` does, and its answers keep to their bits.
 use mathlib.Core.Path.{sym, ap, subst, ◌∙◌}
 use Rattle.search.specs.Promises.{NoOpenMove, BoundedByRivals}
+use Rattle.refusal.specs.Numbers.{number_of}
 use Rattle.numbers.specs.Numbers.{result_number, KeepsBits}
 use Rattle.exports.proofs.NumberByLaws.{open_by_within, of_written_by}
 use Rattle.exports.proofs.planner_open_plan_by.Goals as goal
@@ -12,6 +13,6 @@ returns c = let planned = c.open_plan_by-open_plan in
     record {
       answer = rw (← c.choice_of.ensures) (c.plan_number.ensures ∙ ap result_number planned.ensures.answer);
       area = rw (← c.choice_of.ensures) planned.ensures.area;
-      settled = rw (← c.choice_of.ensures) (of_written_by _ _ _ _ area NoOpenMove planned.result bits c.plan_number.ensures planned.ensures.settled);
-      bounded = rw (← c.choice_of.ensures) (of_written_by _ _ _ _ area BoundedByRivals planned.result bits c.plan_number.ensures planned.ensures.bounded);
+      settled = rw (← c.choice_of.ensures) (of_written_by _ _ _ _ area NoOpenMove number_of planned.result bits c.plan_number.ensures planned.ensures.settled);
+      bounded = rw (← c.choice_of.ensures) (of_written_by _ _ _ _ area BoundedByRivals number_of planned.result bits c.plan_number.ensures planned.ensures.bounded);
     }
