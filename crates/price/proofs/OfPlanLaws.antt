@@ -22,7 +22,7 @@ use Rattle.questions.proofs.AcceptedLaws.{WithinBounds, door, facilities_read}
 use Rattle.plan_area.specs.Plan.{plan_bytes, question9, plan_set}
 use Rattle.price.specs.declared.Written.{Written}
 use Rattle.refusal.specs.declared.Refusal.{Refusal}
-use Rattle.refusal.specs.Numbers.{answer_of}
+use Rattle.refusal.specs.Numbers.{number_of, answer_by, answer_of}
 use Rattle.price.specs.Pricing.{Plan, plan, answer, area_after, OfPlan, question8, pricing, SetKept}
 use Rattle.price.proofs.PricingLaws.{answered, marked}
 use Rattle.plan_area.proofs.PlanSetLaws.{plan_set_lem}
@@ -49,13 +49,13 @@ module _ (outcome : Answer Plan) (p : Plan) (set : ℕ) (e : outcome ≡ accepte
       ap (λ o. area_after o area) e ∙ ap (λ (q : Plan). splice area 0 q.bytes) f.is in
       ap₂ plan_set there (ap (λ (q : Plan). length q.bytes) f.is) ∙ plan_set_lem f.instance f.byte3 set f.total f.moves area f.few f.small
 
--- the call answers as the outcome says
-module _ (outcome : Answer Plan) (r : Result Written Refusal) (area next : List ℕ)
-    (says : answer_of r ≡ answer outcome) (leaves : next ≡ area_after outcome area) where
+-- the call answers as the outcome says, by the number of each refusal
+module _ {E : Type 0} (number : E → ℕ) (outcome : Answer Plan) (r : Result Written E) (area next : List ℕ)
+    (says : answer_by number r ≡ answer outcome) (leaves : next ≡ area_after outcome area) where
   -- what holds of the set of every plan that a call can make holds of the set that is read off the area at its exit
   pub of_plan : (P : ℕ → Type 0) → ((p : Plan) → outcome ≡ accepted p → (set : ℕ) × PlanOf set p × P set) → OfPlan r next P
   of_plan P made w e =
-      let a = answered outcome _ (sym (ap answer_of e) ∙ says) in
+      let a = answered outcome _ (sym (ap (answer_by number) e) ∙ says) in
       let f = made a.0 a.1 in
       let there : plan_set next w.bytes ≡ f.0 =
       ap₂ plan_set leaves (ap (λ (x : Written). x.bytes) a.2) ∙ set_read_off outcome a.0 f.0 a.1 f.1 area in
@@ -66,11 +66,16 @@ module _ (outcome : Answer Plan) (r : Result Written Refusal) (area next : List 
   unfolding answer
   promised P h p e set f = go r says h
     where
-      go : (q : Result Written Refusal) → answer_of q ≡ answer outcome → OfPlan q next P → P set
+      go : (q : Result Written E) → answer_by number q ≡ answer outcome → OfPlan q next P → P set
       go (Ok w) told hold =
           let long : w.bytes ≡ length p.bytes = ap (λ (x : Written). x.bytes) (same_result (told ∙ ap answer e)) in
           subst P (ap₂ plan_set leaves long ∙ set_read_off outcome p set e f area) (hold w refl)
       go (Err refusal) told hold = absurd (not_both (sym (told ∙ ap answer e)))
+
+-- and used where a refusal is a number already, that of a question or not
+pub of_plan_numbered : (outcome : Answer Plan) (r : Result Written ℕ) (area next : List ℕ) → answer_by (λ k. k) r ≡ answer outcome → next ≡ area_after outcome area
+    → (P : ℕ → Type 0) → ((p : Plan) → outcome ≡ accepted p → (set : ℕ) × PlanOf set p × P set) → OfPlan r next P
+of_plan_numbered = of_plan (λ k. k)
 
 -- ---- pricing
 
@@ -118,7 +123,7 @@ module _ (s : List ℕ) (set room : ℕ) (p : Plan) (h : pricing s set room ≡ 
 pub pricing_sends : (s : List ℕ) (set : ℕ) (r : Result Written Refusal) (area next : List ℕ)
     → answer_of r ≡ answer (pricing s set (length area)) → next ≡ area_after (pricing s set (length area)) area → OfPlan r next (FarmsSent s next)
 pricing_sends s set r area next says leaves =
-    of_plan (pricing s set (length area)) r area next says leaves (FarmsSent s next)
+    of_plan number_of (pricing s set (length area)) r area next says leaves (FarmsSent s next)
     (λ p e. (set, priced_set s set (length area) p e, rw leaves (priced_farms s set (length area) p e area)))
 
 -- all that pricing promises, from its two equations
@@ -129,11 +134,11 @@ pricing_promises s set r area next h = (
   h.0,
   (
     h.1,
-    of_plan (pricing s set (length area)) r area next h.0 h.1 (λ kept. kept ≡ set)
+    of_plan number_of (pricing s set (length area)) r area next h.0 h.1 (λ kept. kept ≡ set)
         (λ p e. (set, priced_set s set (length area) p e, refl)),
   ),
 )
 
 -- a refused call wrote no plan
-pub none_written : (refusal : Refusal) (area : List ℕ) (P : ℕ → Type 0) → OfPlan (Err refusal) area P
+pub none_written : {E : Type 0} (refusal : E) (area : List ℕ) (P : ℕ → Type 0) → OfPlan (Err refusal) area P
 none_written refusal area P w e = absurd (let z : ◌≡◌ {A = ℕ} 0 1 = cc in omega arith)

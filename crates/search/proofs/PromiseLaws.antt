@@ -19,7 +19,7 @@ use Rattle.model.specs.Answers.{accepted}
 use Rattle.questions.specs.Sheet.{yards, farm_byte, instance_of, instance_by}
 use Rattle.questions.specs.Reading.{counts, reading}
 use Rattle.questions.proofs.AcceptedLaws.{WithinBounds, door, facilities_are, facilities_read}
-use Rattle.refusal.specs.Numbers.{answer_of}
+use Rattle.refusal.specs.Numbers.{number_of, answer_of}
 use Rattle.price.specs.Pricing.{Plan, answer, area_after, OfPlan}
 use Rattle.std.specs.Prelude.{Result}
 use Rattle.refusal.specs.declared.Refusal.{Refusal}
@@ -112,7 +112,7 @@ module _ (s : List ℕ) (r : Result Written Refusal) (area next : List ℕ) wher
         → (WithinBounds (instance_of s) → next ≡ area_after (accepted (open_plan (instance_of s) (farm_byte s (yards s)))) area → P (open_search (instance_of s) (open_start (instance_of s))).set)
         → OfPlan r next P
     open_of P holds =
-        of_plan (open_planning s (length area)) r area next says leaves P
+        of_plan number_of (open_planning s (length area)) r area next says leaves P
         (λ p e. let h = open_when s (length area) p e in
         let there = leaves ∙ ap (λ o. area_after o area) (e ∙ ap accepted h.3) in
         (_, open_plan_of s (length area) p e, holds (door s h.0 h.1 h.2) there))
@@ -134,7 +134,7 @@ module _ (s : List ℕ) (r : Result Written Refusal) (area next : List ℕ) wher
         → (WithinBounds (instance_of s) → 1 ≤ k → k ≤ (instance_of s).facilities → next ≡ area_after (accepted (limited_plan (instance_of s) (farm_byte s (yards s)) k)) area
         → P (limited_search (instance_of s) (limited_start k)).set) → OfPlan r next P
     limited_of P holds =
-        of_plan (limited_planning s k (length area)) r area next says leaves P
+        of_plan number_of (limited_planning s k (length area)) r area next says leaves P
         (λ p e. let h = limited_when s k (length area) p e in
         let few = few_of_sheet s h.0 h.1 k h.2 h.3.1 in
         let there = leaves ∙ ap (λ o. area_after o area) (e ∙ ap accepted h.4) in
